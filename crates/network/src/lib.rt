@@ -41,3 +41,13 @@ pub enum Verdict {
     Accepted,
     Refused(Cause),
 }
+
+// How long each list is that a caller lends: two of labels, two of neighbours, the states and the path.
+pub struct Lent {
+    pub start_labels: usize,
+    pub start_neighbours: usize,
+    pub end_labels: usize,
+    pub end_neighbours: usize,
+    pub states: usize,
+    pub path: usize,
+}
