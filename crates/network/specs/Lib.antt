@@ -4,3 +4,8 @@ pub mod Walk
 pub mod Potential
 pub mod Query
 pub mod Refusal
+pub mod Given
+pub mod CaseSplit
+pub mod WalkLaws
+pub mod Shift
+pub mod PotentialLaws
