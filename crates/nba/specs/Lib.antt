@@ -1,0 +1,4 @@
+pub mod State
+pub mod Search
+pub mod Result
+pub mod Demands
