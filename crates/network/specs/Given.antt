@@ -11,7 +11,7 @@ use Rattle.network.specs.declared.Lent.{Lent}
 use Rattle.network.specs.declared.Cause.{Cause}
 use Rattle.network.specs.declared.Cause.the-variants.{NodeCount, ArcLists, PotentialLists, StartOrEnd, Pattern, Room, BadArc, BadPotential, Inconsistent, UnsoundLine, MisplacedLine}
 use Rattle.network.specs.Answer.{numberOf}
-use Rattle.network.specs.Network.{Side, Network, mostNodes, mostArcs, mostWeight, arcCount, near, weight, isArc}
+use Rattle.network.specs.Network.{Side, Network, mostNodes, mostArcs, mostWeight, arcCount, near, weight}
 use Rattle.network.specs.Potential.{mostPotential, potentialAt, Consistent}
 use Rattle.network.specs.Query.{Query, mostEntries, potentials, source}
 use Rattle.network.specs.Refusal.{badNodeCount, badArcLists, badPotentialLists, badStartOrEnd, badPattern, badRoom, badArc, badPotential, breaksRule}

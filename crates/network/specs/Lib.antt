@@ -5,7 +5,14 @@ pub mod Potential
 pub mod Query
 pub mod Refusal
 pub mod Given
+pub mod Cases
 pub mod CaseSplit
 pub mod WalkLaws
 pub mod Shift
 pub mod PotentialLaws
+pub mod LowestLaws
+pub mod RefusalLaws
+pub mod GivenLaws
+pub mod SoundLaws
+pub mod OneVerdict
+pub mod CaseVerdicts

@@ -1,0 +1,92 @@
+-- `frames::frame_in` meets its contract: where the line is digits, its frame is that of its kind. Assumes nothing.
+use mathlib.Core.Path.{_≡_, sym, _∙_}
+use mathlib.Core.Bool.{true}
+use native.Mathlib.Omega.{arith}
+use Rattle.frames.specs.Digits.{areDigits, Readable}
+use Rattle.frames.specs.Frame.{ofKind, frameOf}
+use borrow.Author.Tests.{ne-eqb}
+use Rattle.frames.specs.declared.Frame.the-variants.{Unsound}
+use Rattle.frames.specs.FrameCases.{by-kind}
+use borrow.Author.Needs.{needs}
+use Rattle.frames.proofs.frame_in.Statement.{statement}
+use Rattle.frames.proofs.frame_in.Tie as tie
+
+are-digits-requires : tie.Need-are-digits-requires
+are-digits-requires c κs = search needs
+
+-- the line is digits, and the table is the reader's
+digits : (c : tie.Then1) → areDigits (c .before .before .before .args .line .now) ≡ true
+digits c = sym (c .before .are-digits .ensures) ∙ c .if1 .taken
+
+readable : (c : tie.Then1) → Readable (c .before .before .before .args .table .now) (c .before .before .before .args .line .now)
+readable c = record { table = c .before .before .before .pre .0; digits = digits c }
+
+number-requires : tie.Need-number-requires
+number-requires c κs = (readable c, omega arith, omega arith)
+
+size-frame-requires : tie.Need-size-frame-requires
+size-frame-requires c κs = readable (c .before .before)
+
+arc-frame-requires : tie.Need-arc-frame-requires
+arc-frame-requires c κs = readable (c .before .before)
+
+potentials-frame-requires : tie.Need-potentials-frame-requires
+potentials-frame-requires c κs = readable (c .before .before)
+
+query-frame-requires : tie.Need-query-frame-requires
+query-frame-requires c κs = readable (c .before .before)
+
+arc-frame-requires-2 : tie.Need-arc-frame-requires-2
+arc-frame-requires-2 c κs = readable (c .before .before)
+
+returns : tie.Need-returns
+unfolding ofKind
+returns c = c .size-frame .ensures ∙ by-kind _ 1 (digits (c .before .before .before)) (sym (c .before .before .number .ensures .0) ∙ c .before .match .keys1)
+
+returns-2 : tie.Need-returns-2
+unfolding ofKind
+returns-2 c = c .arc-frame .ensures ∙ by-kind _ 2 (digits (c .before .before .before)) (sym (c .before .before .number .ensures .0) ∙ c .before .match .keys2)
+
+returns-3 : tie.Need-returns-3
+unfolding ofKind
+returns-3 c = c .potentials-frame .ensures ∙ by-kind _ 3 (digits (c .before .before .before)) (sym (c .before .before .number .ensures .0) ∙ c .before .match .keys3)
+
+returns-4 : tie.Need-returns-4
+unfolding ofKind
+returns-4 c = c .query-frame .ensures ∙ by-kind _ 4 (digits (c .before .before .before)) (sym (c .before .before .number .ensures .0) ∙ c .before .match .keys4)
+
+returns-5 : tie.Need-returns-5
+unfolding ofKind
+returns-5 c = c .arc-frame2 .ensures ∙ by-kind _ 5 (digits (c .before .before .before)) (sym (c .before .before .number .ensures .0) ∙ c .before .match .keys5)
+
+returns-6 : tie.Need-returns-6
+unfolding ofKind
+returns-6 c =
+    let k = c .before .number .result in
+    let r = c .match .rest in
+    let other : Unsound ≡ ofKind k (c .before .before .before .before .before .args .line .now) =
+    simp (ne-eqb k 1 (r .0 .0 .0 .0 .1), ne-eqb k 2 (r .0 .0 .0 .1), ne-eqb k 3 (r .0 .0 .1), ne-eqb k 4 (r .0 .1), ne-eqb k 5 (r .1)) in
+    other ∙ by-kind _ k (digits (c .before .before)) (sym (c .before .number .ensures .0))
+
+returns-7 : tie.Need-returns-7
+unfolding frameOf
+returns-7 c = rw (sym (c .before .are-digits .ensures) ∙ c .if1 .left)
+
+pub frame-in-spec : {M : Type 1} → statement M
+frame-in-spec =
+    tie.close
+    (tie.spec
+    are-digits-requires
+    number-requires
+    size-frame-requires
+    arc-frame-requires
+    potentials-frame-requires
+    query-frame-requires
+    arc-frame-requires-2
+    returns
+    returns-2
+    returns-3
+    returns-4
+    returns-5
+    returns-6
+    returns-7)

@@ -1,0 +1,89 @@
+-- `frames::pattern` meets its contract: only a query has entries, and its line has one digit for each. Assumes nothing.
+use mathlib.Core.Path.{_≡_, refl, sym, _∙_}
+use mathlib.Core.Logic.{⊎-elim}
+use mathlib.Core.List.{List, []}
+use Prim.Native.Nat.{ℕ, _+_, _≤_}
+use native.Mathlib.Omega.{arith}
+use denote.Enum.Declared.{tagOf}
+use lib.ListN.{length}
+use Rattle.frames.specs.Digits.{valueOf, valueTable}
+use Rattle.frames.specs.Frame.{patternDigits, entriesOf, patternOf}
+use Rattle.frames.specs.FrameCases.{query-length}
+use Rattle.frames.specs.RoomLaws.{laid-placed, too-little-room, nothing-placed}
+use Rattle.frames.specs.LineSteps.{query-pattern, length-pattern}
+use Rattle.frames.specs.declared.Frame.{Frame}
+use Rattle.frames.specs.declared.Frame.the-variants.{Size, Arc, TwoWay, Potentials, Query, Unsound}
+use Rattle.frames.proofs.Frame.{the-type}
+use borrow.Author.Needs.{needs}
+use Rattle.frames.proofs.pattern.Statement.{statement}
+use Rattle.frames.proofs.pattern.Tie as tie
+
+-- a frame that is no query has no entries
+no-entries : (f : Frame) (ds : List ℕ) → (tagOf the-type f ≡ 4 → ⊥) → entriesOf f ds ≡ []
+no-entries (Query a b n) ds h = absurd (h refl)
+no-entries (Size n m) ds h = refl
+no-entries (Arc t a w) ds h = refl
+no-entries (TwoWay t a w) ds h = refl
+no-entries (Potentials n a k) ds h = refl
+no-entries Unsound ds h = refl
+
+decode-requires : tie.Need-decode-requires
+decode-requires c κs = search needs
+
+enum-known-count : tie.Need-enum-known-count
+enum-known-count c = search needs
+
+returns : tie.Need-returns
+unfolding patternOf
+returns c =
+    let a = c .before .before .before .before .args in
+    let f = c .before .decode .result in
+    let other : tagOf the-type f ≡ 4 → ⊥ = λ e.
+    ⊎-elim (λ h. omega arith)
+    (⊎-elim (λ h. omega arith) (⊎-elim (λ h. omega arith) (⊎-elim (λ h. omega arith) (λ h. omega arith))))
+    (c .match .keys2) in
+    let none : entriesOf f (patternDigits (a .line .now)) ≡ [] = no-entries f _ other in
+    rw (sym (c .before .decode .ensures), none) (nothing-placed (a .entries .now))
+
+cast-n : tie.Need-cast-n
+cast-n c = search needs
+
+returns-2 : tie.Need-returns-2
+returns-2 c =
+    let a = c .before .before .before .before .before .before .before .args in
+    let e = sym (c .before .before .before .before .decode .ensures) ∙ c .before .before .count .given .1 in
+    rw (← query-pattern (a .line .now) e)
+    (too-little-room _ (a .entries .now) (omega (arith, length-pattern (a .line .now) e)))
+
+write-entries-requires : tie.Need-write-entries-requires
+unfolding valueTable valueOf
+write-entries-requires c κs =
+    let a = c .before .before .before .before .before .before .before .before .before .args in
+    let e = sym (c .before .before .before .before .before .before .decode .ensures) ∙ c .before .before .before .before .count .given .1 in
+    let l = query-length (a .line .now) e in
+    let most : length (a .line .now) ≤ 12 + length (a .entries .now) = omega arith in
+    (refl, omega arith, most)
+
+same-length : tie.Need-same-length
+same-length c = search needs
+
+returns-3 : tie.Need-returns-3
+returns-3 c =
+    let a = c .before .before .before .before .before .before .before .before .before .before .before .before .args in
+    let e = sym (c .before .before .before .before .before .before .before .before .before .decode .ensures) ∙ c .before .before .before .before .before .before .before .count .given .1 in
+    let n = length-pattern (a .line .now) e in
+    rw (← query-pattern (a .line .now) e)
+    (laid-placed _ (a .entries .now) _ _ (omega (arith, n)) (record { count-is = sym n; room-is = c .before .before .write-entries .ensures }))
+
+pub pattern-spec : {M : Type 1} → statement M
+pattern-spec =
+    tie.close
+    (tie.spec
+    decode-requires
+    enum-known-count
+    returns
+    cast-n
+    returns-2
+    write-entries-requires
+    same-length
+    returns-3)

@@ -1,0 +1,57 @@
+-- `frames::write_answer` meets its contract: in each case it is what that case's writer promises. Assumes nothing.
+use borrow.Author.Needs.{needs}
+use Rattle.frames.proofs.write_answer.Statement.{statement}
+use Rattle.frames.proofs.write_answer.Tie as tie
+
+enum-known-answer : tie.Need-enum-known-answer
+enum-known-answer c = search needs
+
+write-route-requires : tie.Need-write-route-requires
+write-route-requires c κs = search needs
+
+enum-known-answer-2 : tie.Need-enum-known-answer-2
+enum-known-answer-2 c = search needs
+
+write-no-route-requires : tie.Need-write-no-route-requires
+write-no-route-requires c κs = search needs
+
+enum-known-answer-3 : tie.Need-enum-known-answer-3
+enum-known-answer-3 c = search needs
+
+write-refusal-requires : tie.Need-write-refusal-requires
+write-refusal-requires c κs = search needs
+
+same-length : tie.Need-same-length
+same-length c = search needs
+
+returns : tie.Need-returns
+returns c = rw (c .before .before .before .before .before .answer .given .1) (c .before .before .write-route .ensures)
+
+same-length-2 : tie.Need-same-length-2
+same-length-2 c = search needs
+
+returns-2 : tie.Need-returns-2
+returns-2 c = rw (c .before .before .before .before .before .answer2 .given .1) (c .before .before .write-no-route .ensures)
+
+same-length-3 : tie.Need-same-length-3
+same-length-3 c = search needs
+
+returns-3 : tie.Need-returns-3
+returns-3 c = rw (c .before .before .before .before .before .answer3 .given .1) (c .before .before .write-refusal .ensures)
+
+pub write-answer-spec : {M : Type 1} → statement M
+write-answer-spec =
+    tie.close
+    (tie.spec
+    enum-known-answer
+    write-route-requires
+    enum-known-answer-2
+    write-no-route-requires
+    enum-known-answer-3
+    write-refusal-requires
+    same-length
+    returns
+    same-length-2
+    returns-2
+    same-length-3
+    returns-3)

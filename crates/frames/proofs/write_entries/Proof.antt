@@ -1,0 +1,79 @@
+-- `frames::write_entries` meets its contract: the entries underway are the values of the digits from the thirteenth on.
+-- Assumes nothing.
+use mathlib.Core.List.{_∷_}
+use mathlib.Core.Path.{_≡_}
+use Prim.Native.Nat.{_+_, _-_, _≤_}
+use native.Mathlib.Omega.{arith}
+use lib.ListN.{length}
+use Rattle.frames.specs.Frame.{patternDigits}
+use Rattle.frames.specs.RoomLaws.{Underway, underway-start, underway-entry, underway-end}
+use Rattle.frames.specs.LineSteps.{entriesLeft, entries-more, entries-end, length-entries}
+use Rattle.frames.proofs.write_entries.Statement.{statement}
+use Rattle.frames.proofs.write_entries.Tie as tie
+
+abbrev Inv-loop : tie.InvT-loop
+Inv-loop table line entries₀ i₀ entries i = (i ≤ length line - 12) × Underway (patternDigits line) entries₀ entries i (entriesLeft line i)
+
+abbrev μ-loop : tie.MeasureT-loop
+μ-loop table line entries₀ i₀ entries i = length line - i
+
+loop-holds : tie.Need-loop-holds Inv-loop μ-loop
+unfolding patternDigits
+loop-holds c = (omega arith, underway-start _ (c .before .before .args .entries .now) (omega (arith, length-entries (c .before .before .args .line .now))))
+
+sub-loop : tie.Need-sub-loop Inv-loop μ-loop
+sub-loop c = omega arith
+
+add-value : tie.Need-add-value Inv-loop μ-loop
+add-value c = omega arith
+
+shared-slice-read-value : tie.Need-shared-slice-read-value Inv-loop μ-loop
+shared-slice-read-value c = omega arith
+
+value-requires : tie.Need-value-requires Inv-loop μ-loop
+value-requires c κs = c .before .before .before .before .before .pre .0
+
+slice-write-entries : tie.Need-slice-write-entries Inv-loop μ-loop
+slice-write-entries c = omega arith
+
+add-i : tie.Need-add-i Inv-loop μ-loop
+add-i c = omega arith
+
+loop-less : tie.Need-loop-less Inv-loop μ-loop
+loop-less c = omega arith
+
+loop-again : tie.Need-loop-again Inv-loop μ-loop
+unfolding patternDigits
+loop-again c =
+    let a = c .before .before .before .before .before .before .args in
+    let l = c .before .before .before .loop in
+    let more : entriesLeft (a .line .now) (l .i) ≡ c .value .result ∷ entriesLeft (a .line .now) (l .i + 1) = rw (c .value .ensures) (entries-more (a .line .now) (l .i) (omega arith)) in
+    (omega arith, underway-entry _ (a .entries .now) (l .entries) (l .i) (c .value .result) _ (rw more at (l .inv .1)))
+
+same-length : tie.Need-same-length Inv-loop μ-loop
+same-length c = c .before .loop .inv .1 .size
+
+returns : tie.Need-returns Inv-loop μ-loop
+unfolding patternDigits
+returns c =
+    let a = c .before .before .before .before .args in
+    let l = c .before .loop in
+    underway-end _ (a .entries .now) (l .entries) (l .i) (rw (entries-end (a .line .now) (l .i) (omega arith)) at (l .inv .1)) .room-is
+
+pub write-entries-spec : {M : Type 1} → statement M
+write-entries-spec =
+    tie.close
+    (tie.spec
+    Inv-loop
+    μ-loop
+    loop-holds
+    sub-loop
+    add-value
+    shared-slice-read-value
+    value-requires
+    slice-write-entries
+    add-i
+    loop-less
+    loop-again
+    same-length
+    returns)

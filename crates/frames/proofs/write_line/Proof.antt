@@ -1,0 +1,119 @@
+-- `frames::write_line` meets its contract: the line is underway with the fields that are left, and the line feed ends it.
+-- Assumes nothing.
+use mathlib.Core.Path.{refl}
+use mathlib.Core.List.{[], _∷_}
+use Prim.Native.Nat.{_+_, _-_, _≤_}
+use native.Mathlib.Omega.{arith}
+use borrow.Author.Needs.{needs}
+use lib.ListN.{length, getD, drop, length-set}
+use Rattle.frames.specs.AnswerLines.{lineFeed, lineOf}
+use Rattle.frames.specs.RoomLaws.{Underway, lent-room, underway-start, underway-entry, underway-end}
+use Rattle.frames.specs.LineSteps.{line-feed-left, field-fits, field-more}
+use Rattle.frames.proofs.write_line.Statement.{statement}
+use Rattle.frames.proofs.write_line.Tie as tie
+
+abbrev Inv-loop : tie.InvT-loop
+Inv-loop room₀ widths values at₀ i₀ room at i = (i ≤ length widths) × Underway (lineOf widths values) room₀ room at (lineOf (drop i widths) (drop i values))
+
+abbrev μ-loop : tie.MeasureT-loop
+μ-loop room₀ widths values at₀ i₀ room at i = length widths - i
+
+-- the next field fits
+fits : (c : tie.In-loop Inv-loop μ-loop) → c .before .loop .at + getD (c .before .before .before .before .before .args .widths .now) (c .before .loop .i) 0 ≤ length (c .before .loop .room)
+fits c =
+    let a = c .before .before .before .before .before .args in
+    let l = c .before .loop in
+    field-fits _ (a .room .now) (l .room) (l .at) (a .widths .now) (a .values .now) (l .i) (l .inv .1) _ _ (omega arith) (omega arith) refl refl
+
+-- after the last field, the line feed is left
+last :
+    (c : tie.After-loop Inv-loop μ-loop)
+    → Underway (lineOf (c .before .before .before .before .before .args .widths .now) (c .before .before .before .before .before .args .values .now))
+    (c .before .before .before .before .before .args .room .now) (c .before .loop .room) (c .before .loop .at) (lineFeed ∷ [])
+last c =
+    let a = c .before .before .before .before .before .args in
+    let l = c .before .loop in
+    line-feed-left _ (a .room .now) (l .room) (l .at) (a .widths .now) (a .values .now) (l .i) (l .inv .1) (omega arith)
+
+loop-holds : tie.Need-loop-holds Inv-loop μ-loop
+loop-holds c = (omega arith, underway-start _ (c .before .before .before .args .room .now) (c .before .before .before .pre .1))
+
+mul-digits : tie.Need-mul-digits Inv-loop μ-loop
+mul-digits c = search needs
+
+shared-slice-read-digits : tie.Need-shared-slice-read-digits Inv-loop μ-loop
+shared-slice-read-digits c = omega arith
+
+sub-write-field : tie.Need-sub-write-field Inv-loop μ-loop
+sub-write-field c = omega (arith, fits (c .before))
+
+part-write-field-start : tie.Need-part-write-field-start Inv-loop μ-loop
+part-write-field-start c = omega (arith, fits (c .before))
+
+part-write-field-end : tie.Need-part-write-field-end Inv-loop μ-loop
+part-write-field-end c = omega arith
+
+mul-write-field : tie.Need-mul-write-field Inv-loop μ-loop
+mul-write-field c = search needs
+
+shared-slice-read-write-field : tie.Need-shared-slice-read-write-field Inv-loop μ-loop
+shared-slice-read-write-field c = omega arith
+
+write-field-requires : tie.Need-write-field-requires Inv-loop μ-loop
+write-field-requires c κs = lent-room (c .before .before .before .before .loop .room) (c .before .before .before .before .loop .at) _ (fits (c .before .before .before))
+
+add-at : tie.Need-add-at Inv-loop μ-loop
+add-at c = omega (arith, fits (c .before .before .before .before .before .before))
+
+add-i : tie.Need-add-i Inv-loop μ-loop
+add-i c = omega arith
+
+loop-less : tie.Need-loop-less Inv-loop μ-loop
+loop-less c = omega arith
+
+loop-again : tie.Need-loop-again Inv-loop μ-loop
+loop-again c =
+    let a = c .before .before .before .before .before .before .before .before .before .before .before .args in
+    let l = c .before .before .before .before .before .before .before .loop in
+    let w = c .before .before .write-field in (
+      omega arith,
+      field-more _ (a .room .now) (l .room) (l .at) (a .widths .now) (a .values .now) (l .i) (l .inv .1) _ _ (omega arith) (omega arith) refl refl (w .last .0) (w .ensures),
+    )
+
+slice-write-room : tie.Need-slice-write-room Inv-loop μ-loop
+slice-write-room c = omega (arith, last c .fits)
+
+add-result : tie.Need-add-result Inv-loop μ-loop
+add-result c = omega (arith, last c .fits)
+
+same-length : tie.Need-same-length Inv-loop μ-loop
+same-length c = simp length-set (c .before .loop .inv .1 .size)
+
+returns : tie.Need-returns Inv-loop μ-loop
+returns c =
+    let l = c .before .loop in
+    underway-end _ _ _ _ (underway-entry _ (c .before .before .before .before .before .args .room .now) (l .room) (l .at) lineFeed [] (last c))
+
+pub write-line-spec : {M : Type 1} → statement M
+write-line-spec =
+    tie.close
+    (tie.spec
+    Inv-loop
+    μ-loop
+    loop-holds
+    mul-digits
+    shared-slice-read-digits
+    sub-write-field
+    part-write-field-start
+    part-write-field-end
+    mul-write-field
+    shared-slice-read-write-field
+    write-field-requires
+    add-at
+    add-i
+    loop-less
+    loop-again
+    slice-write-room
+    add-result
+    same-length
+    returns)

@@ -1,0 +1,88 @@
+-- One part more of a line: what each turn of the loops that write leans on. Assumes nothing.
+use mathlib.Core.Path.{_≡_, refl, _∙_}
+use mathlib.Core.List.{List, [], _∷_, _++_, append-assoc, map}
+use Prim.Native.Nat.{ℕ, zero, suc, _+_, _-_, _*_, _<_, _≤_}
+use native.Mathlib.Omega.{arith}
+use native.Mathlib.Numerals.{add-one}
+use lib.ListN.{length, getD, take, drop, replicate, length-append, length-drop, length-map, length-replicate, drop-of-length-le}
+use lib.Seq.{drop-cons}
+use Rattle.frames.specs.Digits.{valueOf, digitsOf, spelled}
+use Rattle.frames.specs.FieldLaws.{length-digits, total}
+use Rattle.frames.specs.Room.{laid}
+use Rattle.frames.specs.RoomLaws.{Underway, underway-more}
+use Rattle.frames.specs.Frame.{frameOf, patternDigits, patternOf}
+use Rattle.frames.specs.FrameCases.{query-length}
+use Rattle.frames.specs.declared.Frame.the-variants.{Query}
+use Rattle.frames.specs.AnswerLines.{lineFeed, lineOf, nodesLine, pathLine}
+
+-- the first of the fields that are left
+line-more : (ws vs : List ℕ) (i : ℕ) → i < length ws → i < length vs → lineOf (drop i ws) (drop i vs) ≡ digitsOf (getD ws i 0) (getD vs i 0) ++ lineOf (drop (i + 1) ws) (drop (i + 1) vs)
+unfolding lineOf spelled
+line-more ws vs i h k = rw (add-one, drop-cons ws i 0, drop-cons vs i 0, append-assoc)
+
+line-end : (ws vs : List ℕ) (i : ℕ) → length ws ≤ i → lineOf (drop i ws) (drop i vs) ≡ lineFeed ∷ []
+unfolding lineOf spelled
+line-end ws vs i h = rw (drop-of-length-le ws h)
+
+-- a line is underway, with the fields from i on still to come
+module _ (text old room : List ℕ) (at : ℕ) (ws vs : List ℕ) (i : ℕ) (u : Underway text old room at (lineOf (drop i ws) (drop i vs))) where
+  -- after the last field the line feed is still to come
+  pub line-feed-left : length ws ≤ i → Underway text old room at (lineFeed ∷ [])
+  line-feed-left h = rw (line-end ws vs i h) at u
+
+  -- the next field has room, and once it is written the line is so much further
+  module _ (w v : ℕ) (h : i < length ws) (k : i < length vs) (width : getD ws i 0 ≡ w) (value : getD vs i 0 ≡ v) where
+    next-field : Underway text old room at (digitsOf w v ++ lineOf (drop (i + 1) ws) (drop (i + 1) vs))
+    next-field = rw (line-more ws vs i h k, width, value) at u
+
+    pub field-fits : at + w ≤ length room
+    field-fits = omega (arith, next-field .fits, length-append (digitsOf w v) (lineOf (drop (i + 1) ws) (drop (i + 1) vs)), length-digits w v)
+
+    pub field-more :
+        (ys : List ℕ) → ys ≡ laid (digitsOf w v) (take (length room - at) (drop at room))
+        → Underway text old (take at room ++ (ys ++ drop (length room - at) (drop at room))) (at + w) (lineOf (drop (i + 1) ws) (drop (i + 1) vs))
+    field-more ys e = rw (length-digits w v) at (underway-more text old room at (digitsOf w v) _ ys next-field e)
+
+-- the bytes of a line are those of its fields and a line feed
+pub length-line : (ws vs : List ℕ) → length ws ≡ length vs → length (lineOf ws vs) ≡ total ws + 1
+unfolding lineOf spelled
+length-line [] vs e = refl
+length-line (w ∷ ws) [] e = absurd (omega arith)
+length-line (w ∷ ws) (v ∷ vs) e =
+    let rest : length (lineOf ws vs) ≡ total ws + 1 = length-line ws vs (omega arith) in
+    rw (append-assoc, length-append, length-digits) (omega arith)
+
+-- a path's line has three bytes and four a node
+total-fours : (n : ℕ) → total (replicate n 4) ≡ 4 * n
+total-fours zero = refl
+total-fours (suc n) = omega (arith, total-fours n)
+
+pub length-path : (nodes : List ℕ) → length (pathLine nodes) ≡ 3 + 4 * length nodes
+length-path nodes =
+    let same : length {A = ℕ} (replicate (length nodes) 4) ≡ length nodes = length-replicate {A = ℕ} (length nodes) 4 in
+    length-append (digitsOf 2 130) (nodesLine nodes) ∙ omega (arith, length-digits 2 130, length-line (replicate (length nodes) 4) nodes same, total-fours (length nodes))
+
+-- the entries of a pattern that are left
+abbrev pub entriesLeft : List ℕ → ℕ → List ℕ
+entriesLeft s i = map valueOf (drop (12 + i) s)
+
+pub entries-more : (s : List ℕ) (i : ℕ) → 12 + i < length s → entriesLeft s i ≡ valueOf (getD s (12 + i) 0) ∷ entriesLeft s (i + 1)
+entries-more s i h =
+    let next : 12 + (i + 1) ≡ suc (12 + i) = omega arith in
+    rw (next, drop-cons s (12 + i) 0)
+
+pub entries-end : (s : List ℕ) (i : ℕ) → length s ≤ 12 + i → entriesLeft s i ≡ []
+entries-end s i h = rw (drop-of-length-le s h)
+
+pub length-entries : (s : List ℕ) → length (patternDigits s) ≡ length s - 12
+unfolding patternDigits
+length-entries s = simp (length-map, length-drop)
+
+-- the pattern of a query's line
+module _ (s : List ℕ) {a b n : ℕ} (e : frameOf s ≡ Query a b n) where
+  pub query-pattern : patternDigits s ≡ patternOf s
+  unfolding patternOf
+  query-pattern = rw e
+
+  pub length-pattern : length (patternDigits s) ≡ n
+  length-pattern = omega (arith, length-entries s, query-length s e)

@@ -1,0 +1,227 @@
+-- Demands 2 and 3, of every accepted query and every turn pattern. Each is read off the invariant and the state at the end.
+-- Assumes nothing.
+use mathlib.Core.Path.{_≡_, ap, _∙_}
+use mathlib.Core.Logic.{_≢_}
+use mathlib.Core.Bool.{true, false}
+use mathlib.Core.List.{List}
+use Prim.Native.Nat.{ℕ, zero, suc, _+_, _≤_, _<_}
+use native.Mathlib.Omega.{arith}
+use native.Mathlib.Nat.{le-refl}
+use lib.Dec.{eqb}
+use lib.IntN.{pos, _+ℤ_, _-ℤ_}
+use lib.ListN.{length, getD, List·getD-eq-default}
+use lib.Signed.{leZ}
+use borrow.Author.Tests.{ltb-true, le-leb, eqb-true, eqb-false}
+use Rattle.network.specs.declared.Figures.{Figures}
+use Rattle.network.specs.declared.Answer.the-variants.{Route}
+use Rattle.network.specs.Network.{Side, start, end, other}
+use Rattle.network.specs.Walk.{Walk}
+use Rattle.network.specs.WalkLaws.{walk-is, walk-turned}
+use Rattle.network.specs.Potential.{potentialAt}
+use Rattle.network.specs.Query.{Query, potentials, source}
+use Rattle.network.specs.Given.{Sound}
+use Rattle.network.specs.CaseSplit.{by-eq, by-lt, by-bool}
+use Rattle.network.specs.Shift.{up, low-mag, up-within}
+use Rattle.network.specs.PotentialLaws.{shift, shifted}
+use Rattle.nba.specs.State.{missing, present, State, half, labelOf, neighbourOf, stateOf, openedBy}
+use Rattle.nba.specs.Search.{keyOf, rejects, rejected, afterTurns, atOnce, endState}
+use Rattle.nba.specs.Result.{figuresAt, found}
+use Rattle.nba.specs.Demands.{WalkOfLength, Demand2, Demand3Turns, Demand3Opened, Demand3Bound, withPattern, SameLengthAndVerdict, both-routes, both-none, BelowTheMark}
+use Rattle.nba.specs.Fits.{EntriesFit, FiguresFit, PathFits}
+use Rattle.nba.specs.CodeLaws.{after-turns-tabled}
+use Rattle.nba.specs.Measures.{potential, target}
+use Rattle.nba.specs.MeasureLaws.{opened-some, taken-opened, shiftable}
+use Rattle.nba.specs.LeastLaws.{key-lifted, key-shifted}
+use Rattle.nba.specs.CountLaws.{count-left}
+use Rattle.nba.specs.BeginningLaws.{at-once-begun, begun-undecided}
+use Rattle.nba.specs.Trails.{label-small}
+use Rattle.nba.specs.TrailLaws.{follows-inside}
+use Rattle.nba.specs.PathLaws.{Every, of-none, of-more, joined-is, joined-walk}
+use Rattle.nba.specs.ShortWalk.{walk-beside, none-twice-short, joined-inside, joined-some}
+use Rattle.nba.specs.Invariant.{Orderly, Invariant}
+use Rattle.nba.specs.RunLaws.{ends, turns-figure, orderly, invariant, turn-leaves, left-once}
+use Rattle.nba.specs.EndLaws.{RouteRead, route-read, no-route-read, route-answered, no-route-answered, at-end, end-state-ends, end-state-at-once, path-real, path-once}
+
+-- ---- demand 2
+module _ {q : Query} (sound : Sound q) where
+  -- the best length at the end, where it is present, is the length of a walk
+  walk-of-answer : endState q .best < missing → WalkOfLength q (endState q .best)
+  walk-of-answer h = joined-walk (path-real (at-end sound .meeting h))
+
+  read : {l n : ℕ} {f : Figures} → found q ≡ Route l n f → RouteRead q (endState q) l n
+  unfolding found
+  read {l} {n} {f} e = route-read q (endState q) l n f e
+
+  pub demand-2 : Demand2 q
+  unfolding found
+  demand-2 =
+      let a = at-end sound in
+      record {
+        real = λ {l} {n} {f} e. let r = read e in joined-is (r .length-is) (path-real (a .meeting (r .here)));
+        none-twice = λ {l} {n} {f} e. path-once (a .meeting (read e .here));
+        shortest = λ {l} {n} {f} e m p. omega (arith, a .least m p, read e .length-is);
+        no-walk = λ {f} e m p.
+            let r = walk-beside sound (sound .source-in start) p in
+            omega (arith, no-route-read q (endState q) f e, a .least (r .total) (r .walk), r .small);
+        no-route = λ none. no-route-answered q (endState q)
+            (by-lt (endState q .best) missing (λ h. absurd (none (endState q .best) (walk-of-answer h))) (λ h. h));
+        largest = λ {l} {n} {f} e.
+            let r = read e in
+            let b = walk-beside sound (sound .source-in start) (walk-of-answer (r .here)) in
+            omega (arith, a .least (b .total) (b .walk), b .small, r .length-is);
+      }
+
+-- ---- demand 3
+-- the search ends in at most as many turns as there are nodes, and each node leaves once
+pub demand-3-turns : {q : Query} → Sound q → q .start ≢ q .end → Demand3Turns q (figuresAt (endState q) .turns)
+demand-3-turns {q} sound d =
+    let e = ends sound in
+    let at = end-state-ends sound d in
+    let st = afterTurns q (e .turns) in
+    let same : figuresAt (endState q) .turns ≡ e .turns = ap (λ st. figuresAt st .turns) at ∙ omega (arith, turns-figure sound st (after-turns-tabled q (e .turns) .states-long), e .left-are-turns) in
+    rw same (record {
+      few = e .few;
+      going = e .going;
+      one-leaves = λ i l. turn-leaves sound i (e .going i l);
+      over = e .over;
+      at-end = at;
+      once = left-once sound;
+    })
+
+-- a walk from start to end, as a walk of a side from its source to its target
+walk-of-side : (q : Query) {l : ℕ} (s : Side) → WalkOfLength q l → Walk s (q .network) (source s q) (target q s) l
+walk-of-side q start p = p
+walk-of-side q end p = walk-turned p
+
+-- the bound in signed numbers
+signed-bound : {q : Query} → Sound q → (s : Side) (st : State) (v l : ℕ) → labelOf s st v + potential q s v ≤ l + potential q s (target q s)
+    → leZ ((pos (labelOf s st v) +ℤ potentialAt (potentials s q) v) -ℤ potentialAt (potentials s q) (source (other s) q)) (pos l) ≡ true
+unfolding shifted
+signed-bound {q} sound s st v l h =
+    let labels = half s st .labels in
+    let p = potentials s q in
+    let t = potentialAt p (source (other s) q) in
+    let k = keyOf labels p v in
+    up-within shift l k t (key-lifted (shiftable sound s) labels v) (low-mag shift t (shiftable sound s .fits (source (other s) q)))
+    ∙ le-leb (up shift k) (l + up shift t) (omega (arith, key-shifted (shiftable sound s) labels v))
+
+opened-right : {q : Query} {st : State} → Sound q → Invariant q st → Demand3Opened q st
+opened-right {q} {st} sound inv = record {
+  reached = λ s v o. inv .worth s .walk v (inv .settled s .known v (taken-opened s o));
+  nearest = λ s v o. inv .exact s .nearest v o;
+  bound = λ s v o l p.
+      let r = walk-beside sound (sound .source-in s) (walk-of-side q s p) in
+      signed-bound sound s st v l (omega (arith, r .no-longer, inv .exact s .bound v o (r .total) (omega (arith, r .small)) (r .walk)));
+}
+
+-- a node opened from a side carries its exact distance and keeps the bound: before every turn, and at the end
+pub demand-3-opened : {q : Query} → Sound q → q .start ≢ q .end → (i : ℕ) → Demand3Opened q (afterTurns q i)
+demand-3-opened sound d i = opened-right sound (invariant sound d i)
+
+pub demand-3-opened-end : {q : Query} → Sound q → Demand3Opened q (endState q)
+demand-3-opened-end {q} sound =
+    by-bool (eqb (q .start) (q .end))
+    (λ t. let e = eqb-true (q .start) (q .end) t in
+    let none : (s : Side) (v : ℕ) → stateOf (atOnce q) v ≡ openedBy s → ⊥ = λ s v o. omega (arith, begun-undecided (at-once-begun q) v, opened-some s) in
+    rw (end-state-at-once sound e) (record { reached = λ s v o. absurd (none s v o); nearest = λ s v o. absurd (none s v o); bound = λ s v o. absurd (none s v o) }))
+    (λ t. let d = eqb-false (q .start) (q .end) t in rw (end-state-ends sound d) (demand-3-opened sound d (ends sound .turns)))
+
+-- the bound against the length answered
+pub demand-3-bound : {q : Query} → Sound q → Demand3Bound q
+demand-3-bound {q} sound = record {
+  bound = λ {l} {n} {f} e s v o.
+      let r = read sound e in
+      demand-3-opened-end sound .bound s v o l (walk-is (r .length-is) (walk-of-answer sound (r .here)));
+}
+
+-- length and verdict are the same for every pattern
+pub demand-3-same : {q : Query} (p : List ℕ) → Sound q → Sound (withPattern p q) → SameLengthAndVerdict (found q) (found (withPattern p q))
+unfolding found
+demand-3-same {q} p sound sound′ =
+    let q′ = withPattern p q in
+    let b = endState q .best in
+    let b′ = endState q′ .best in
+    by-lt b missing
+    (λ h. let i = at-end sound′ .least b (walk-of-answer sound h) in
+    let h′ : b′ < missing = omega arith in
+    let j = at-end sound .least b′ (walk-of-answer sound′ h′) in
+    let e : b ≡ b′ = omega arith in
+    rw (route-answered q (endState q) h, route-answered q′ (endState q′) h′, e) both-routes)
+    (λ h. let h′ : missing ≤ b′ = by-lt b′ missing (λ h′. omega (arith, at-end sound .least b′ (walk-of-answer sound′ h′))) (λ k. k) in
+    rw (no-route-answered q (endState q) h, no-route-answered q′ (endState q′) h′) both-none)
+
+-- ---- with no best length, nothing is rejected
+-- whatever labels, potentials and floor are: no number stands for a missing best length in the tests of step 4
+pub without-best-none-rejected : (q : Query) (s : Side) (st : State) (u : ℕ) → present (st .best) ≡ false → rejected q s st u ≡ false
+unfolding rejected rejects
+without-best-none-rejected q s st u h = rw h
+
+-- ---- entries, figures and path
+-- a node with a label is a node of the network
+labelled-inside : {q : Query} {st : State} → Orderly q st → (s : Side) (v : ℕ) → labelOf s st v < missing → v < q .network .nodes
+labelled-inside {q} {st} o s v h =
+    by-lt v (q .network .nodes) (λ i. i)
+    (λ i. absurd (omega (arith, List·getD-eq-default (half s st .labels) missing {n = v} (omega (arith, o .tabled .labels-long s)))))
+
+labels-below : {q : Query} {st : State} → Sound q → Orderly q st → BelowTheMark q st
+labels-below sound o = record {
+  label-small = λ s v h. let i = ltb-true _ missing h in label-small sound (o .tabled) (o .trails s) v (labelled-inside o s v i) i;
+  sums-small = omega arith;
+}
+
+entries-fit : {q : Query} {st : State} → Sound q → Orderly q st → EntriesFit q st
+entries-fit {q} {st} sound o = record {
+  labels-fit = λ s v. o .trails s .most v;
+  best-fits = o .top;
+  neighbours-fit = λ s v d. by-lt (labelOf s st v) missing
+      (λ h. let a = o .trails s .trails v h in by-eq v (source s q)
+      (λ e. absurd (d (ap (neighbourOf s st) e ∙ o .trails s .home-blank)))
+      (λ f. follows-inside sound (record { arcs = a .arcs; enough = le-refl (a .arcs); has = a .trail }) f))
+      (λ h. absurd (d (o .trails s .blank v h)));
+  states-fit = o .few;
+}
+
+-- labels stay below the missing mark, and every entry fits: before every turn, and at the end
+pub below-the-mark : {q : Query} → Sound q → (i : ℕ) → BelowTheMark q (afterTurns q i)
+below-the-mark sound i = labels-below sound (orderly sound i)
+
+pub below-the-mark-end : {q : Query} → Sound q → BelowTheMark q (endState q)
+below-the-mark-end sound = labels-below sound (at-end sound .orderly)
+
+pub entries : {q : Query} → Sound q → (i : ℕ) → EntriesFit q (afterTurns q i)
+entries sound i = entries-fit sound (orderly sound i)
+
+pub entries-end : {q : Query} → Sound q → EntriesFit q (endState q)
+entries-end sound = entries-fit sound (at-end sound .orderly)
+
+figures-fit : {q : Query} {st : State} → Sound q → Orderly q st → FiguresFit q (figuresAt st)
+unfolding figuresAt
+figures-fit {q} {st} sound o = record {
+  adds-up = count-left (st .states) (o .few);
+  few-turns = omega (arith, turns-figure sound st (o .tabled .states-long));
+}
+
+pub figures : {q : Query} → Sound q → (i : ℕ) → FiguresFit q (figuresAt (afterTurns q i))
+figures sound i = figures-fit sound (orderly sound i)
+
+pub figures-end : {q : Query} → Sound q → FiguresFit q (figuresAt (endState q))
+figures-end sound = figures-fit sound (at-end sound .orderly)
+
+every-at : {P : ℕ → Type 0} {l : List ℕ} → Every P l → (i : ℕ) → i < length l → P (getD l i 0)
+every-at of-none i h = absurd (omega arith)
+every-at (of-more p e) zero h = p
+every-at (of-more p e) (suc i) h = every-at e i (omega arith)
+
+-- the path of a route has at least one node and no more than there are, all of them nodes
+pub path-fits : {q : Query} {l n : ℕ} {f : Figures} → Sound q → found q ≡ Route l n f → PathFits q n
+path-fits {q} sound e =
+    let r = read sound e in
+    let m = at-end sound .meeting (r .here) in
+    let j = path-real m in
+    let i = joined-inside sound j (sound .source-in start) in
+    record {
+      long = r .nodes-are;
+      some = omega (arith, r .nodes-are, joined-some j);
+      few = omega (arith, r .nodes-are, none-twice-short (path-once m) i);
+      inside = λ k h. every-at i k (omega (arith, r .nodes-are));
+    }

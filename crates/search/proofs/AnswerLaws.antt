@@ -1,0 +1,115 @@
+-- What is read off the tables at the end of a search is the answer that `nba` defines. Assumes nothing.
+use mathlib.Core.Path.{_≡_, refl, sym, ap, _∙_}
+use mathlib.Core.Bool.{true, false, cond}
+use mathlib.Core.List.{List, [], _++_}
+use Prim.Native.Nat.{ℕ, _≤_, _<_}
+use native.Mathlib.Omega.{arith}
+use lib.ListN.{length, getD, take, drop}
+use lib.Seq.{length-take-le}
+use borrow.Author.Tests.{lt-ltb, le-ltb}
+use Rattle.network.specs.declared.Answer.{Answer}
+use Rattle.network.specs.declared.Answer.the-variants.{Route, NoRoute}
+use Rattle.network.specs.declared.Figures.{Figures}
+use Rattle.network.specs.Given.{Enough, Sound}
+use Rattle.network.specs.Network.{start, end}
+use Rattle.network.specs.Query.{Query}
+use Rattle.nba.specs.State.{missing, State}
+use Rattle.nba.specs.Search.{endState}
+use Rattle.nba.specs.Result.{pathOf, figuresAt, answerAt, found}
+use Rattle.nba.specs.Tabled.{Tabled}
+use Rattle.nba.specs.CodeLaws.{end-state-tabled}
+use Rattle.nba.specs.Fits.{PathFits}
+use Rattle.nba.specs.Theorems.{path-fits}
+use Rattle.search.specs.declared.turn.Best.{Best}
+use Rattle.search.specs.Promise.{Lists, lists, lengths, shownPath, searched, Left, left}
+use Rattle.search.specs.Run.{Filled, Long, Tables, tables, tablesOf}
+use Rattle.search.specs.Tables.{figuresIn, pathThrough, atFront, NodesBelow, PathRoom}
+use Rattle.search.specs.TablesLaws.{figuresAt-is, pathOf-is, nodes-by-entry}
+
+module _ {q : Query} (sound : Sound q) {sl sn el en states : List ℕ} {best : Best} (t : tables sl sn el en states best ≡ tablesOf (endState q)) where
+  -- the lists are the tables of the state at the end
+  pub filled-at-end : Filled (endState q) sl sn el en states
+  filled-at-end = record {
+    start-labels = ap (λ (x : Tables). x .start-labels) t;
+    start-neighbours = ap (λ (x : Tables). x .start-neighbours) t;
+    end-labels = ap (λ (x : Tables). x .end-labels) t;
+    end-neighbours = ap (λ (x : Tables). x .end-neighbours) t;
+    states = ap (λ (x : Tables). x .states) t;
+  }
+
+  best-is : best .length ≡ endState q .best
+  best-is = ap (λ (x : Tables). x .best) t
+
+  meeting-is : best .node ≡ endState q .meeting
+  meeting-is = ap (λ (x : Tables). x .meeting) t
+
+  -- the states are one a node
+  pub states-long : length states ≡ q .network .nodes
+  states-long = ap length (filled-at-end .states) ∙ end-state-tabled q .states-long
+
+  -- the path read off the lists
+  path-are : pathThrough sn en (q .start) (q .end) (best .node) ≡ pathOf q (endState q)
+  path-are =
+      rw (filled-at-end .start-neighbours, filled-at-end .end-neighbours, meeting-is)
+      (sym (pathOf-is q (endState q) (end-state-tabled q .neighbours-long start) (end-state-tabled q .neighbours-long end)))
+
+  module _ {f : Figures} (counted : f ≡ figuresIn states) where
+    figures-are : f ≡ figuresAt (endState q)
+    figures-are = counted ∙ ap figuresIn (filled-at-end .states) ∙ sym (figuresAt-is (endState q))
+
+    -- a missing best length is "no route", and the path list keeps its entries
+    pub answers-none : missing ≤ best .length → NoRoute f ≡ found q
+    unfolding found answerAt
+    answers-none h = rw (le-ltb (endState q .best) missing (omega (arith, best-is)), figures-are)
+
+    -- a best length is a route of that length
+    pub answers-route : {n : ℕ} → best .length < missing → n ≡ length (pathThrough sn en (q .start) (q .end) (best .node)) → Route (best .length) n f ≡ found q
+    unfolding found answerAt
+    answers-route h e = rw (lt-ltb (endState q .best) missing (omega (arith, best-is)), e, path-are, best-is, figures-are)
+
+  -- with no route the path list keeps its entries
+  pub shows-none : missing ≤ best .length → (path : List ℕ) → path ≡ atFront (shownPath q (endState q)) path
+  unfolding shownPath atFront
+  shows-none h path = rw (le-ltb (endState q .best) missing (omega (arith, best-is)))
+
+  module _ (here : best .length < missing) where
+    -- the path list shows the route
+    pub shows-route : (path : List ℕ) {shown : List ℕ} → shown ≡ atFront (pathThrough sn en (q .start) (q .end) (best .node)) path → shown ≡ atFront (shownPath q (endState q)) path
+    unfolding shownPath
+    shows-route path e = e ∙ rw (lt-ltb (endState q .best) missing (omega (arith, best-is))) (ap (λ p. atFront p path) path-are)
+
+    -- the path has room: it is of nodes, and no more than there are
+    pub path-room : {path : List ℕ} → q .network .nodes ≤ length path → PathRoom path sn en (q .start) (q .end) (best .node)
+    path-room {path} h =
+        let sn-long : length sn ≡ q .network .nodes = ap length (filled-at-end .start-neighbours) ∙ end-state-tabled q .neighbours-long start in
+        let en-long : length en ≡ q .network .nodes = ap length (filled-at-end .end-neighbours) ∙ end-state-tabled q .neighbours-long end in
+        let fit = path-fits sound (sym (answers-route refl here refl)) in
+        record {
+          as-many = en-long ∙ sym sn-long;
+          few = omega (arith, sound .sized .few-nodes);
+          room = omega arith;
+          short = omega (arith, fit .few);
+          nodes = rw (sn-long, path-are) (nodes-by-entry (q .network .nodes) (pathOf q (endState q)) (λ i l. fit .inside i (omega (arith, fit .long))));
+        }
+
+-- ---- the first entries of longer lists
+-- every lent list, cut to one entry a node, has one entry a node
+pub cut-long : {n : ℕ} (l : Lists) → Enough n (lengths l)
+    → Long n (take n (l .start-labels)) (take n (l .start-neighbours)) (take n (l .end-labels)) (take n (l .end-neighbours)) (take n (l .states))
+cut-long {n} l e = record {
+  labels-long = length-take-le n (l .start-labels) (e .for-start-labels);
+  neighbours-long = length-take-le n (l .start-neighbours) (e .for-start-neighbours);
+  theirs-long = length-take-le n (l .end-labels) (e .for-end-labels);
+  beyond-long = length-take-le n (l .end-neighbours) (e .for-end-neighbours);
+  states-long = length-take-le n (l .states) (e .for-states);
+}
+
+-- the end state before what stood beyond it is what the search leaves
+pub cut-left : (q : Query) (before : Lists) {r : Answer} {sl sn el en states path : List ℕ} → r ≡ found q → Filled (endState q) sl sn el en states
+    → path ≡ atFront (shownPath q (endState q)) (before .path) → let n = q .network .nodes in
+    left r (lists (sl ++ drop n (before .start-labels)) (sn ++ drop n (before .start-neighbours)) (el ++ drop n (before .end-labels)) (en ++ drop n (before .end-neighbours)) (states ++ drop n (before .states)) path)
+    ≡ left (found q) (searched q before)
+unfolding searched atFront
+cut-left q before a f p =
+    let t = end-state-tabled q in
+    rw (a, f .start-labels, f .start-neighbours, f .end-labels, f .end-neighbours, f .states, p, t .labels-long start, t .neighbours-long start, t .labels-long end, t .neighbours-long end, t .states-long)

@@ -1,0 +1,4 @@
+pub mod Ints
+pub mod TurnLaws
+pub mod RunLaws
+pub mod AnswerLaws

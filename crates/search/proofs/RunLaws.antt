@@ -1,0 +1,334 @@
+-- A turn of one side, made on the side's own lists with its arcs turned its way, is the turn that `nba` defines. Proved once,
+-- over the side. Assumes nothing.
+use mathlib.Core.Path.{_≡_, refl, sym, ap, _∙_}
+use mathlib.Core.Bool.{Bool, true, false, cond, _&&_, _||_}
+use mathlib.Core.List.{List, [], _∷_, _++_}
+use Prim.Native.Nat.{ℕ, zero, suc, _+_, _%_, _^_, _≤_, _<_}
+use lib.Dec.{eqb}
+use borrow.Author.Tests.{eq-eqb, ne-eqb}
+use lib.IntN.{ℤ, pos, _+ℤ_}
+use lib.Signed.{mag}
+use lib.ListN.{length, getD, set, replicate, length-replicate}
+use native.Mathlib.Numerals.{add-one}
+use native.Mathlib.Omega.{arith}
+use Rattle.network.specs.CaseSplit.{cases, twice, by-lt, true≢false}
+use Rattle.network.specs.Given.{Sound}
+use Rattle.network.specs.Network.{Side, start, end, other, Network, network, arcCount, isArc}
+use Rattle.network.specs.Potential.{potentialAt}
+use Rattle.network.specs.Query.{Query, potentials, source, sideOfTurn}
+use Rattle.nba.specs.State.{missing, noNode, Half, State, half, undecided, openedBy, state}
+use Rattle.nba.specs.Search.{Candidate as Chosen, none, node, isNone, leastBelow, candidate, rejects, rejected, arcsBelow, arcsOf, Reach, lookAt, lookAtEach, floorAfter, halfAfter, afterReach, reachOf, rejecting, opening, takes, turn, ended, turnUnlessEnded, afterTurns, beginning, beginningHalf, atOnce, endState}
+use Rattle.network.specs.Shift.{mag-add}
+use Rattle.nba.specs.StateLaws.{both-sides, half-own, half-theirs}
+use Rattle.nba.specs.LeastLaws.{LeastAt, Choice, no-node, least-node, choice-is}
+use Rattle.nba.specs.MeasureLaws.{shiftable}
+use Rattle.nba.specs.CodeLaws.{goes-on, stays-ended}
+use Rattle.nba.specs.RunLaws.{Ends, ends}
+use Rattle.search.specs.declared.turn.Candidate.the-variants.{Nothing, Node}
+use Rattle.search.specs.declared.turn.Progress.{Progress}
+use Rattle.search.specs.Turn.{meant, Took, took, taken, bestOf, Ahead, Openable, Passed}
+use Rattle.search.specs.Run.{standingOf, Known, Long, Floors, swappedOf, turnOf, Foreseen, Taking, Begun, Underway, lastState, Tables, tables, tablesOf}
+
+-- the network with its arcs turned the way of a side
+abbrev pub sideways : Side → Network → Network
+sideways start g = g
+sideways end g = network (g .nodes) (g .heads) (g .tails) (g .weights)
+
+look-sideways : (s : Side) (g : Network) (theirs states : List ℕ) (u : ℕ) (arcs : List ℕ) (r : Reach)
+    → lookAtEach start (sideways s g) theirs states u arcs r ≡ lookAtEach s g theirs states u arcs r
+unfolding lookAtEach lookAt
+look-sideways start g theirs states u arcs r = refl
+look-sideways end g theirs states u [] r = refl
+look-sideways end g theirs states u (a ∷ arcs) r = look-sideways end g theirs states u arcs (lookAt end g theirs states u a r)
+
+arcs-sideways : (s : Side) (g : Network) (u a : ℕ) → length (g .heads) ≡ arcCount g → arcsBelow start (sideways s g) u a ≡ arcsBelow s g u a
+unfolding arcsBelow isArc
+arcs-sideways start g u a e = refl
+arcs-sideways end g u zero e = refl
+arcs-sideways end g u (suc a) e = rw (arcs-sideways end g u a e, e)
+
+arcs-of-sideways : (s : Side) (g : Network) (u : ℕ) → length (g .heads) ≡ arcCount g → arcsOf start (sideways s g) u ≡ arcsOf s g u
+unfolding arcsOf
+arcs-of-sideways start g u e = refl
+arcs-of-sideways end g u e = arcs-sideways end g u (length (g .heads)) e ∙ ap (arcsBelow end g u) e
+
+-- what taking a node changes, of a state
+abbrev tookOf : Side → State → Took
+tookOf s st = record { reached = reachOf s st; states = st .states }
+
+-- side s takes node u, on its own lists
+abbrev pub takenBy : Query → Side → State → ℕ → Took
+takenBy q s st u =
+    taken (sideways s (q .network)) (potentials s q) (potentials (other s) q) (half (other s) st .labels) u (source (other s) q)
+    (half (other s) st .floor) (openedBy s) (tookOf s st)
+
+abbrev pub afterTook : Query → Side → State → Took → State
+afterTook q s st t = afterReach q s st (t .states) (t .reached)
+
+-- the mark of a rejected node is the next number after that of an opened one
+rejected-mark : (s : Side) → openedBy s + 1 ≡ suc (openedBy s)
+rejected-mark start = refl
+rejected-mark end = refl
+
+-- a turn of `nba` is a node taken on the side's own lists
+turn-is-taken : (q : Query) (s : Side) (st : State) (u : ℕ) (k : ℤ) → length (q .network .heads) ≡ arcCount (q .network) → candidate q s st ≡ node u k
+    → turn q s st ≡ afterTook q s st (takenBy q s st u)
+unfolding turn taken rejected rejecting opening
+turn-is-taken q s st u k e c =
+    rw (c, rejected-mark s, arcs-of-sideways s (q .network) u e, look-sideways s (q .network))
+    (twice (λ a b. a ≡ afterTook q s st b) (rejected q s st u) (λ h. refl) (λ h. refl))
+
+-- ---- what `side_turn` leaves is the state after the turn
+module _ (q : Query) (labels neighbours theirs beyond states labels′ neighbours′ states′ : List ℕ) (p r : Progress) (u : ℕ) where
+  taken-here : (s : Side)
+      → takenBy q s (standingOf s labels neighbours theirs beyond states p) u
+      ≡ taken (sideways s (q .network)) (potentials s q) (potentials (other s) q) theirs u (source (other s) q) (p .beyond) (openedBy s) (took labels neighbours states (bestOf p))
+  taken-here start = refl
+  taken-here end = refl
+
+  settled : (s : Side) → floorAfter (p .floor) (leastBelow labels′ states′ (potentials s q) (q .network .nodes)) ≡ r .floor → p .beyond ≡ r .beyond
+      → afterTook q s (standingOf s labels neighbours theirs beyond states p) (took labels′ neighbours′ states′ (bestOf r)) ≡ standingOf s labels′ neighbours′ theirs beyond states′ r
+  unfolding afterReach halfAfter
+  settled start e f = rw (e, f)
+  settled end e f = rw (e, f)
+
+  own-candidate : (s : Side) → candidate q s (standingOf s labels neighbours theirs beyond states p) ≡ leastBelow labels states (potentials s q) (q .network .nodes)
+  unfolding candidate
+  own-candidate start = refl
+  own-candidate end = refl
+
+  other-candidate : (s : Side) → candidate q (other s) (standingOf s labels neighbours theirs beyond states p) ≡ leastBelow theirs states (potentials (other s) q) (q .network .nodes)
+  unfolding candidate
+  other-candidate start = refl
+  other-candidate end = refl
+
+pub record AfterTurn (q : Query) (s : Side) (before after : State) (r : Progress) : Type 0 where
+  pub turned : after ≡ turn q s before
+  pub known : Known q s after r
+
+pub side-turn-is : (q : Query) (s : Side) (labels neighbours theirs beyond states labels′ neighbours′ states′ : List ℕ) (p r : Progress) (u : ℕ) (k : ℤ)
+    → length (q .network .heads) ≡ arcCount (q .network)
+    → length states′ ≡ q .network .nodes
+    → candidate q s (standingOf s labels neighbours theirs beyond states p) ≡ node u k
+    → took labels′ neighbours′ states′ (bestOf r) ≡ taken (sideways s (q .network)) (potentials s q) (potentials (other s) q) theirs u (source (other s) q) (p .beyond) (openedBy s) (took labels neighbours states (bestOf p))
+    → Ahead labels′ (potentials s q) theirs (potentials (other s) q) states′ p r
+    → AfterTurn q s (standingOf s labels neighbours theirs beyond states p) (standingOf s labels′ neighbours′ theirs beyond states′ r) r
+side-turn-is q s labels neighbours theirs beyond states labels′ neighbours′ states′ p r u k e long c t a =
+    let st = standingOf s labels neighbours theirs beyond states p in
+    let f : floorAfter (p .floor) (leastBelow labels′ states′ (potentials s q) (q .network .nodes)) ≡ r .floor = sym (a .floor ∙ ap (floorAfter (p .floor)) (a .mine ∙ ap (leastBelow labels′ states′ (potentials s q)) long)) in
+    record {
+      turned =
+          sym
+          (turn-is-taken q s st u k e c
+          ∙ ap (afterTook q s st) (taken-here q labels neighbours theirs beyond states labels′ neighbours′ states′ p r u s ∙ sym t)
+          ∙ settled q labels neighbours theirs beyond states labels′ neighbours′ states′ p r u s f (sym (a .beyond)));
+      known = record {
+        mine = a .mine ∙ ap (leastBelow labels′ states′ (potentials s q)) long ∙ sym (own-candidate q labels′ neighbours′ theirs beyond states′ labels′ neighbours′ states′ r r u s);
+        yours = a .yours ∙ ap (leastBelow theirs states′ (potentials (other s) q)) long ∙ sym (other-candidate q labels′ neighbours′ theirs beyond states′ labels′ neighbours′ states′ r r u s);
+      };
+    }
+
+-- ---- what a turn asks of the lists, over the side
+module _ {q : Query} (sound : Sound q) {labels neighbours theirs beyond states : List ℕ} (long : Long (q .network .nodes) labels neighbours theirs beyond states) where
+  pub side-openable : (s : Side) (u : ℕ) → u < q .network .nodes
+      → Openable (sideways s (q .network) .tails) (sideways s (q .network) .heads) (q .network .weights) labels neighbours theirs states u
+  side-openable s u h = record {
+    few = omega (arith, sound .sized .few-nodes, long .labels-long);
+    far-long = both-sides (λ t. length (sideways t (q .network) .heads) ≡ length (sideways t (q .network) .tails)) start (sound .sized .heads-long) (sym (sound .sized .heads-long)) s;
+    weights-long = both-sides (λ t. length (q .network .weights) ≡ length (sideways t (q .network) .tails)) start (sound .sized .weights-long) (sound .sized .weights-long ∙ sym (sound .sized .heads-long)) s;
+    far-in = both-sides (λ t. (a : ℕ) → a < length (sideways t (q .network) .tails) → getD (sideways t (q .network) .heads) a 0 < length labels) start
+        (λ a i. rw (long .labels-long) (sound .ends-in end a i))
+        (λ a i. rw (long .labels-long) (sound .ends-in start a (omega (arith, sound .sized .heads-long)))) s;
+    neighbours-long = long .neighbours-long ∙ sym (long .labels-long);
+    theirs-long = long .theirs-long ∙ sym (long .labels-long);
+    states-long = long .states-long ∙ sym (long .labels-long);
+    node-in = rw (long .labels-long) h;
+  }
+
+  pub side-passed : (s : Side) → Passed (length states) labels (potentials s q) theirs (potentials (other s) q)
+  side-passed s = record {
+    few = rw (long .states-long) (sound .sized .few-nodes);
+    labels-long = long .labels-long ∙ sym (long .states-long);
+    own-long = potentials-long s ∙ sym (long .states-long);
+    theirs-long = long .theirs-long ∙ sym (long .states-long);
+    other-long = potentials-long (other s) ∙ sym (long .states-long);
+  }
+    where
+      potentials-long : (t : Side) → length (potentials t q) ≡ q .network .nodes
+      potentials-long start = sound .sized .forward-long
+      potentials-long end = sound .sized .backward-long
+
+-- ---- the node that a side takes
+least-node-is : {labels states : List ℕ} {p : List ℤ} {n u : ℕ} {k : ℤ} {c : Chosen} → Choice labels states p n c → c ≡ node u k → LeastAt labels states p n u k
+least-node-is {u} {k} (no-node f) e = let z : _≡_ {A = ℕ} 0 1 = cc in absurd (omega arith)
+least-node-is {u} {k} (least-node {u = v} {k = j} a) e =
+    let i : v ≡ u = cc in
+    let l : j ≡ k = cc in
+    rw (i, l) at a
+
+pub taken-least : {q : Query} → Sound q → (s : Side) (st : State) {u : ℕ} {k : ℤ} → candidate q s st ≡ node u k
+    → LeastAt (half s st .labels) (st .states) (potentials s q) (q .network .nodes) u k
+unfolding candidate
+taken-least {q} sound s st e = least-node-is (choice-is (shiftable sound s) (half s st .labels) (st .states) (q .network .nodes)) e
+
+-- ---- the side that the pattern names
+pub start-named : (p : List ℕ) (i : ℕ) → getD p (i % length p) 0 ≡ 0 → sideOfTurn p i ≡ start
+unfolding sideOfTurn
+start-named p i e = rw (eq-eqb _ _ e)
+
+pub end-named : (p : List ℕ) (i : ℕ) → (getD p (i % length p) 0 ≡ 0 → ⊥) → sideOfTurn p i ≡ end
+unfolding sideOfTurn
+end-named p i e = rw (ne-eqb _ _ e)
+
+-- the turn of the side that the pattern names is turn number i
+pub turn-named : {q : Query} {s : Side} {before after : State} {r : Progress} (i : ℕ) → sideOfTurn (q .pattern) i ≡ s → AfterTurn q s before after r → after ≡ turnOf q i before
+turn-named i e a = rw e (a .turned)
+
+-- what the end side knows, the start side knows turned round
+pub known-swapped : {q : Query} {st : State} {r : Progress} → Known q end st r → Known q start st (swappedOf r)
+known-swapped k = record { mine = k .yours; yours = k .mine }
+
+-- the lists seen from the other side
+pub long-swapped : {n : ℕ} {labels neighbours theirs beyond states : List ℕ} → Long n labels neighbours theirs beyond states → Long n theirs beyond labels neighbours states
+long-swapped l = record {
+  labels-long = l .theirs-long;
+  neighbours-long = l .beyond-long;
+  theirs-long = l .labels-long;
+  beyond-long = l .neighbours-long;
+  states-long = l .states-long;
+}
+
+-- ---- floors are far within 64 bits
+module _ {q : Query} (sound : Sound q) where
+  key-small : (s : Side) (l u : ℕ) → l < missing → mag (pos l +ℤ potentialAt (potentials s q) u) < 2 ^ 40
+  key-small s l u h = omega (arith, mag-add (2 ^ 32) (2 ^ 31) (pos l) (potentialAt (potentials s q) u) (omega arith) (omega (arith, sound .in-range s u)))
+
+  floor-after-small : (s : Side) (old : ℤ) (labels states : List ℕ) → mag old < 2 ^ 40
+      → mag (floorAfter old (leastBelow labels states (potentials s q) (q .network .nodes))) < 2 ^ 40
+  floor-after-small s old labels states h = by (choice-is (shiftable sound s) labels states (q .network .nodes))
+    where
+      by : {c : Chosen} → Choice labels states (potentials s q) (q .network .nodes) c → mag (floorAfter old c) < 2 ^ 40
+      by (no-node f) = h
+      by (least-node {u} a) = rw (a .is-key) (key-small s (getD labels u missing) u (a .here .labelled))
+
+  -- both floors of a state
+  pub record SmallFloors (st : State) : Type 0 where
+    pub small : (s : Side) → mag (half s st .floor) < 2 ^ 40
+
+  after-reach-small : (s : Side) (st : State) (states : List ℕ) (r : Reach) → SmallFloors st → SmallFloors (afterReach q s st states r)
+  unfolding afterReach halfAfter
+  after-reach-small s st states r h = record {
+    small = both-sides (λ t. mag (half t (afterReach q s st states r) .floor) < 2 ^ 40) s
+        (rw half-own (floor-after-small s (half s st .floor) (r .labels) states (h .small s)))
+        (rw half-theirs (h .small (other s)));
+  }
+
+  takes-small : (s : Side) (c : Chosen) (st : State) → SmallFloors st → SmallFloors (takes q s c st)
+  unfolding rejecting opening
+  takes-small s none st h = h
+  takes-small s (node u k) st h = cases SmallFloors (rejected q s st u) (λ t. after-reach-small s st _ _ h) (λ t. after-reach-small s st _ _ h)
+
+  pub floors-small : (i : ℕ) → SmallFloors (afterTurns q i)
+  unfolding afterTurns turnUnlessEnded turn beginning beginningHalf
+  floors-small zero = record { small = both-sides (λ t. mag (half t (beginning q) .floor) < 2 ^ 40) start (omega (arith, sound .in-range start (q .start))) (omega (arith, sound .in-range end (q .end))) }
+  floors-small (suc i) = cases SmallFloors (ended q (afterTurns q i)) (λ h. floors-small i) (λ h. takes-small (sideOfTurn (q .pattern) i) (candidate q (sideOfTurn (q .pattern) i) (afterTurns q i)) (afterTurns q i) (floors-small i))
+
+-- ---- the beginning
+pub begun : {n : ℕ} {forward backward : List ℤ} {s e : ℕ} (sl sn el en states : List ℕ) (p : Progress)
+    → sl ≡ set (replicate n missing) s 0 → sn ≡ replicate n noNode → el ≡ set (replicate n missing) e 0 → en ≡ replicate n noNode → states ≡ replicate n undecided
+    → p .length ≡ missing → p .meeting ≡ noNode → p .floor ≡ potentialAt forward s → p .beyond ≡ potentialAt backward e
+    → meant (p .own) ≡ leastBelow sl states forward (length states) → meant (p .other) ≡ leastBelow el states backward (length states)
+    → Begun n forward backward s e (standingOf start sl sn el en states p) p
+unfolding beginning beginningHalf candidate
+begun {n} {forward} {backward} sl sn el en states p a b c d f g h i j k l =
+    let z : length states ≡ n = ap length f ∙ length-replicate n undecided in
+    record {
+      at-first = λ net pattern o. rw (a, b, c, d, f, g, h, i, j, o);
+      foreseen = λ net pattern o. record {
+        mine = k ∙ ap (leastBelow sl states forward) (z ∙ sym o);
+        yours = l ∙ ap (leastBelow el states backward) (z ∙ sym o);
+      };
+    }
+
+-- ---- a search under way
+module _ {q : Query} (sound : Sound q) {i : ℕ} {st : State} {p : Progress} (way : Underway q i st p) where
+  -- the two floors of the progress are those of the state
+  pub floors-of : p .floor ≡ half start st .floor → p .beyond ≡ half end st .floor → Floors p
+  floors-of e f = record {
+    floor = rw (e ∙ ap (λ s. half start s .floor) (way .here)) (floors-small sound i .small start);
+    beyond = rw (f ∙ ap (λ s. half end s .floor) (way .here)) (floors-small sound i .small end);
+  }
+
+  module _ {a b : ℕ} {k j : ℤ} (own : p .own ≡ Node a k) (yours : p .other ≡ Node b j) where
+    start-takes-is : candidate q start st ≡ node a k
+    start-takes-is = sym (way .foreseen .mine) ∙ ap meant own
+
+    end-takes-is : candidate q end st ≡ node b j
+    end-takes-is = sym (way .foreseen .yours) ∙ ap meant yours
+
+    -- both sides have a node to take
+    pub both-take : p .floor ≡ half start st .floor → p .beyond ≡ half end st .floor → Taking q st a b p
+    both-take e f = record { start-key = k; start-takes = start-takes-is; end-key = j; end-takes = end-takes-is; floors = floors-of e f }
+
+    going : ended q (afterTurns q i) ≡ false
+    unfolding ended
+    going = rw (sym (way .here)) (rw (start-takes-is, end-takes-is) refl)
+
+    -- so there are turns left
+    pub turns-left : i < q .network .nodes
+    turns-left =
+        let e = ends sound in
+        by-lt i (q .network .nodes) (λ h. h)
+        (λ h. absurd (true≢false (ap (ended q) (stays-ended q (e .turns) i (e .over) (omega (arith, e .few))) ∙ e .over) going))
+
+    -- and the state after the next one is the next
+    pub underway-next : {after : State} {r : Progress} → after ≡ turnOf q i st → Foreseen q after r → Underway q (i + 1) after r
+    underway-next t f = record { here = t ∙ rw (way .here) (sym (rw (add-one i) (goes-on q i going))); foreseen = f }
+
+  -- a side has none: the search has ended, and this is its last state
+  over : ended q st ≡ true → i ≤ q .network .nodes → tablesOf st ≡ tablesOf (lastState q)
+  over e h = ap tablesOf (way .here ∙ sym (stays-ended q i (q .network .nodes) (ap (ended q) (sym (way .here)) ∙ e) h))
+
+  pub over-at-start : p .own ≡ Nothing → i ≤ q .network .nodes → tablesOf st ≡ tablesOf (lastState q)
+  unfolding ended
+  over-at-start e = over (rw (sym (way .foreseen .mine) ∙ ap meant e) refl)
+
+  pub over-at-end : p .other ≡ Nothing → i ≤ q .network .nodes → tablesOf st ≡ tablesOf (lastState q)
+  unfolding ended
+  over-at-end e = over (rw (sym (way .foreseen .yours) ∙ ap meant e) (either (isNone (candidate q start st))))
+    where
+      either : (b : Bool) → (b || true) ≡ true
+      either true = refl
+      either false = refl
+
+-- lists that kept their lengths
+pub kept-long : {n : ℕ} {labels neighbours theirs beyond states labels′ neighbours′ theirs′ beyond′ states′ : List ℕ} → Long n labels neighbours theirs beyond states
+    → length labels′ ≡ length labels → length neighbours′ ≡ length neighbours → length theirs′ ≡ length theirs → length beyond′ ≡ length beyond → length states′ ≡ length states
+    → Long n labels′ neighbours′ theirs′ beyond′ states′
+kept-long l a b c d e = record {
+  labels-long = a ∙ l .labels-long;
+  neighbours-long = b ∙ l .neighbours-long;
+  theirs-long = c ∙ l .theirs-long;
+  beyond-long = d ∙ l .beyond-long;
+  states-long = e ∙ l .states-long;
+}
+
+-- ---- from the beginning to the end
+module _ {q : Query} (sound : Sound q) {sl sn el en states : List ℕ} {p : Progress}
+    (b : Begun (q .network .nodes) (q .forward) (q .backward) (q .start) (q .end) (standingOf start sl sn el en states p) p) where
+  -- a search that has begun is under way, with no turn made
+  pub begun-underway : Underway q 0 (standingOf start sl sn el en states p) p
+  unfolding afterTurns
+  begun-underway = record { here = b .at-first (q .network) (q .pattern) refl; foreseen = b .foreseen (q .network) (q .pattern) refl }
+
+  -- start equal to end: it has ended at once
+  pub ended-at-once : {s : ℕ} → s ≡ q .start → q .start ≡ q .end → tables sl sn el en states (record { length = 0; node = s }) ≡ tablesOf (endState q)
+  unfolding endState atOnce beginning
+  ended-at-once e h =
+      let f : standingOf start sl sn el en states p ≡ beginning q = b .at-first (q .network) (q .pattern) refl in
+      rw (eq-eqb _ _ h, e) (ap (λ (t : Tables). record { start-labels = t .start-labels; start-neighbours = t .start-neighbours; end-labels = t .end-labels; end-neighbours = t .end-neighbours; states = t .states; best = 0; meeting = q .start }) (ap tablesOf f))
+
+-- start and end different: it ends with its last state
+pub ended-last : (q : Query) {t : Tables} → (q .start ≡ q .end → ⊥) → t ≡ tablesOf (lastState q) → t ≡ tablesOf (endState q)
+unfolding endState
+ended-last q h e = rw (ne-eqb _ _ h) e

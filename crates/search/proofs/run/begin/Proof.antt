@@ -1,0 +1,102 @@
+-- `begin` meets its contract: each table is filled as step 1 says, and the two floors are the sources' potentials.
+-- Assumes nothing.
+use mathlib.Core.Path.{_≡_, refl, sym, ap, _∙_}
+use native.Mathlib.Omega.{arith}
+use lib.ListN.{set, replicate}
+use Rattle.network.specs.Potential.{potentialAt}
+use Rattle.nba.specs.State.{missing, noNode}
+use Rattle.search.proofs.Ints.{wide-fits, wide-is}
+use Rattle.search.proofs.RunLaws.{begun}
+use borrow.Author.Needs.{needs}
+use Rattle.search.proofs.run.begin.Statement.{statement}
+use Rattle.search.proofs.run.begin.Tie as tie
+
+begin-labels-requires : tie.Need-begin-labels-requires
+begin-labels-requires c κs = search needs
+
+begin-neighbours-requires : tie.Need-begin-neighbours-requires
+begin-neighbours-requires c κs = search needs
+
+begin-labels-requires-2 : tie.Need-begin-labels-requires-2
+begin-labels-requires-2 c κs = search needs
+
+begin-neighbours-requires-2 : tie.Need-begin-neighbours-requires-2
+begin-neighbours-requires-2 c κs = search needs
+
+begin-states-requires : tie.Need-begin-states-requires
+begin-states-requires c κs = search needs
+
+next-candidates-requires : tie.Need-next-candidates-requires
+next-candidates-requires c κs = search needs
+
+mul-t31 : tie.Need-mul-t31
+mul-t31 c = search needs
+
+shared-slice-copy-out-t33 : tie.Need-shared-slice-copy-out-t33
+shared-slice-copy-out-t33 c = search needs
+
+cast-t34 : tie.Need-cast-t34
+cast-t34 c = wide-fits {z = potentialAt (c .before .before .before .before .before .before .before .before .before .before .before .before .before .before .before .before .before .before .before .before .before .before .before .before .before .before .before .before .before .before .args .forward .now) (c .before .before .before .before .before .before .before .before .before .before .before .before .before .before .before .before .before .before .before .before .before .before .before .before .before .before .before .before .before .before .args .start)} (record { sfits = c .t33 .given })
+
+mul-t36 : tie.Need-mul-t36
+mul-t36 c = search needs
+
+shared-slice-copy-out-t38 : tie.Need-shared-slice-copy-out-t38
+shared-slice-copy-out-t38 c = search needs
+
+cast-t39 : tie.Need-cast-t39
+cast-t39 c = wide-fits {z = potentialAt (c .before .before .before .before .before .before .before .before .before .before .before .before .before .before .before .before .before .before .before .before .before .before .before .before .before .before .before .before .before .before .before .args .backward .now) (c .before .before .before .before .before .before .before .before .before .before .before .before .before .before .before .before .before .before .before .before .before .before .before .before .before .before .before .before .before .before .before .args .end)} (record { sfits = c .t38 .given })
+
+same-length : tie.Need-same-length
+same-length c = search needs
+
+same-length-2 : tie.Need-same-length-2
+same-length-2 c = search needs
+
+same-length-3 : tie.Need-same-length-3
+same-length-3 c = search needs
+
+same-length-4 : tie.Need-same-length-4
+same-length-4 c = search needs
+
+same-length-5 : tie.Need-same-length-5
+same-length-5 c = search needs
+
+returns : tie.Need-returns
+returns c =
+    let long = c .before .before .before .before .before .before .before .before .before .before .before .before .before .before .before .before .before .before .before .before .before .before .before .before .before .before .before .before .before .before .before .pre .0 in
+    begun _ _ _ _ _ _
+    (c .before .before .before .before .before .before .before .before .before .before .before .before .before .before .before .before .before .before .before .before .before .before .before .before .begin-labels .ensures ∙ ap (λ n. set (replicate n missing) (c .before .before .before .before .before .before .before .before .before .before .before .before .before .before .before .before .before .before .before .before .before .before .before .before .before .before .before .before .before .before .before .args .start) 0) (long .labels-long))
+    (c .before .before .before .before .before .before .before .before .before .before .before .before .before .before .before .before .before .before .before .before .begin-neighbours .ensures ∙ ap (λ n. replicate n noNode) (long .neighbours-long))
+    (c .before .before .before .before .before .before .before .before .before .before .before .before .before .before .before .before .begin-labels2 .ensures ∙ ap (λ n. set (replicate n missing) (c .before .before .before .before .before .before .before .before .before .before .before .before .before .before .before .before .before .before .before .before .before .before .before .before .before .before .before .before .before .before .before .args .end) 0) (long .theirs-long))
+    (c .before .before .before .before .before .before .before .before .before .before .before .before .begin-neighbours2 .ensures ∙ ap (λ n. replicate n noNode) (long .beyond-long))
+    (c .before .before .before .before .before .before .before .before .begin-states .ensures)
+    refl
+    refl
+    (wide-is {z = potentialAt (c .before .before .before .before .before .before .before .before .before .before .before .before .before .before .before .before .before .before .before .before .before .before .before .before .before .before .before .before .before .before .before .args .forward .now) (c .before .before .before .before .before .before .before .before .before .before .before .before .before .before .before .before .before .before .before .before .before .before .before .before .before .before .before .before .before .before .before .args .start)} (record { sfits = c .before .t33 .given }))
+    (wide-is {z = potentialAt (c .before .before .before .before .before .before .before .before .before .before .before .before .before .before .before .before .before .before .before .before .before .before .before .before .before .before .before .before .before .before .before .args .backward .now) (c .before .before .before .before .before .before .before .before .before .before .before .before .before .before .before .before .before .before .before .before .before .before .before .before .before .before .before .before .before .before .before .args .end)} (record { sfits = c .t38 .given }))
+    (c .before .before .next-candidates .ensures .0)
+    (c .before .before .next-candidates .ensures .1)
+
+pub begin-spec : {M : Type 1} → statement M
+begin-spec =
+    tie.close
+    (tie.spec
+    begin-labels-requires
+    begin-neighbours-requires
+    begin-labels-requires-2
+    begin-neighbours-requires-2
+    begin-states-requires
+    next-candidates-requires
+    mul-t31
+    shared-slice-copy-out-t33
+    cast-t34
+    mul-t36
+    shared-slice-copy-out-t38
+    cast-t39
+    same-length
+    same-length-2
+    same-length-3
+    same-length-4
+    same-length-5
+    returns)

@@ -1,0 +1,110 @@
+-- `next_turn` meets its contract: in each branch the pattern names the side, and `side_turn` makes its turn on its own lists.
+-- Assumes nothing.
+use mathlib.Core.Path.{_≡_, refl, sym, ap, _∙_}
+use native.Mathlib.Nat.{mod-lt}
+use native.Mathlib.Omega.{arith}
+use Rattle.network.specs.Network.{start, end}
+use Rattle.search.specs.Run.{swappedOf}
+use Rattle.search.proofs.RunLaws.{side-turn-is, side-openable, side-passed, taken-least, start-named, end-named, turn-named, known-swapped, long-swapped}
+use borrow.Author.Needs.{needs}
+use Rattle.search.proofs.run.next_turn.Statement.{statement}
+use Rattle.search.proofs.run.next_turn.Tie as tie
+
+rem-at : tie.Need-rem-at
+rem-at c = search needs
+
+shared-slice-read-if1 : tie.Need-shared-slice-read-if1
+shared-slice-read-if1 c = mod-lt _ (omega (arith, c .before .before .before .before .before .before .before .before .before .before .pre .0 .some-entries))
+
+side-turn-requires : tie.Need-side-turn-requires
+side-turn-requires c κs =
+    let s = c .before .before .before .before .before .before .before .before .before .before .before .before .before .before .before in
+    let sound = s .pre .0 in
+    let long = s .pre .1 .0 in
+    let t = s .pre .1 .1 in (
+      side-openable sound long start (s .args .a) (taken-least sound start _ (t .start-takes) .inside),
+      (
+        side-passed sound long start,
+        (omega (arith, sound .source-in end, sound .sized .forward-long), t .floors .beyond, omega arith, t .floors .floor),
+      ),
+    )
+
+same-length : tie.Need-same-length
+same-length c = search needs
+
+same-length-2 : tie.Need-same-length-2
+same-length-2 c = search needs
+
+same-length-3 : tie.Need-same-length-3
+same-length-3 c = search needs
+
+same-length-4 : tie.Need-same-length-4
+same-length-4 c = search needs
+
+returns : tie.Need-returns
+returns c =
+    let s = c .before .before .before .before .before .before .before .before .before .before .before .before .before .before .before .before .before .before .before .before .before .before in
+    let t = s .pre .1 .1 in
+    let m = side-turn-is _ start _ _ _ _ _ _ _ _ _ _ _ _ (s .pre .0 .sized .heads-long) (c .before .before .before .before .before .before .side-turn .kept .1 .1 .1 .1 .1 .1 .1 .1 .0) (t .start-takes) (rw (s .pre .1 .0 .labels-long) at (c .before .before .before .before .before .before .side-turn .ensures .0)) (c .before .before .before .before .before .before .side-turn .ensures .1) in
+    (turn-named _ (start-named _ _ (c .before .before .before .before .before .before .before .before .before .before .before .if1 .taken)) m, m .known)
+
+swapped-requires : tie.Need-swapped-requires
+swapped-requires c κs = search needs
+
+side-turn-requires-2 : tie.Need-side-turn-requires-2
+side-turn-requires-2 c κs =
+    let s = c .before .before .before .before .before .before .before .before .before .before .before .before .before .before .before .before in
+    let sound = s .pre .0 in
+    let long = long-swapped (s .pre .1 .0) in
+    let t = s .pre .1 .1 in
+    rw (c .before .before .before .before .swapped .ensures) (
+      side-openable sound long end (s .args .b) (taken-least sound end _ (t .end-takes) .inside),
+      (
+        side-passed sound long end,
+        (omega (arith, sound .source-in start, sound .sized .backward-long), t .floors .floor, omega arith, t .floors .beyond),
+      ),
+    )
+
+swapped-requires-2 : tie.Need-swapped-requires-2
+swapped-requires-2 c κs = search needs
+
+same-length-5 : tie.Need-same-length-5
+same-length-5 c = search needs
+
+same-length-6 : tie.Need-same-length-6
+same-length-6 c = search needs
+
+same-length-7 : tie.Need-same-length-7
+same-length-7 c = search needs
+
+same-length-8 : tie.Need-same-length-8
+same-length-8 c = search needs
+
+returns-2 : tie.Need-returns-2
+returns-2 c =
+    let s = c .before .before .before .before .before .before .before .before .before .before .before .before .before .before .before .before .before .before .before .before .before .before .before .before in
+    let t = s .pre .1 .1 in
+    let e = c .before .before .before .before .before .before .before .before .before .before .before .before .swapped .ensures in
+    let m = side-turn-is _ end _ _ _ _ _ _ _ _ (swappedOf (s .args .p)) _ _ _ (s .pre .0 .sized .heads-long) (c .before .before .before .before .before .before .before .side-turn2 .kept .1 .1 .1 .1 .1 .1 .1 .1 .0) (t .end-takes) (rw (e, s .pre .1 .0 .theirs-long) at (c .before .before .before .before .before .before .before .side-turn2 .ensures .0)) (rw e at (c .before .before .before .before .before .before .before .side-turn2 .ensures .1)) in
+    rw (c .swapped2 .ensures) (turn-named _ (end-named _ _ (c .before .before .before .before .before .before .before .before .before .before .before .before .before .if1 .left)) m, known-swapped (m .known))
+
+pub next-turn-spec : {M : Type 1} → statement M
+next-turn-spec =
+    tie.close
+    (tie.spec
+    rem-at
+    shared-slice-read-if1
+    side-turn-requires
+    same-length
+    same-length-2
+    same-length-3
+    same-length-4
+    returns
+    swapped-requires
+    side-turn-requires-2
+    swapped-requires-2
+    same-length-5
+    same-length-6
+    same-length-7
+    same-length-8
+    returns-2)

@@ -1,0 +1,72 @@
+-- `search::tables::begin_labels` meets its contract: before turn i of the loop the first i entries are `missing` and the others as they
+-- were, so at its end all are. Assumes nothing.
+use Prim.Native.Nat.{_≤_, _<_, _-_}
+use mathlib.Core.Path.{_≡_, refl, _∙_}
+use mathlib.Core.List.{_++_}
+use lib.ListN.{length, drop, replicate, length-set}
+use native.Mathlib.Omega.{arith}
+use borrow.Author.Fill.{fill-more}
+use borrow.Author.Needs.{needs}
+use Rattle.nba.specs.State.{missing}
+use Rattle.search.specs.TablesLaws.{filled-whole}
+use Rattle.search.proofs.tables.begin_labels.Statement.{statement}
+use Rattle.search.proofs.tables.begin_labels.Tie as tie
+
+abbrev Inv-loop : tie.InvT-loop
+Inv-loop labels₀ home i₀ i-end labels i = (i ≤ length labels₀) × (length labels ≡ length labels₀) × (labels ≡ replicate i missing ++ drop i labels₀)
+
+abbrev μ-loop : tie.MeasureT-loop
+μ-loop labels₀ home i₀ i-end labels i = length labels₀ - i
+
+loop-holds : tie.Need-loop-holds Inv-loop μ-loop
+loop-holds c = (omega arith, refl, refl)
+
+mul-labels : tie.Need-mul-labels Inv-loop μ-loop
+mul-labels c = search needs
+
+slice-write-labels : tie.Need-slice-write-labels Inv-loop μ-loop
+slice-write-labels c = search needs
+
+add-i : tie.Need-add-i Inv-loop μ-loop
+add-i c = search needs
+
+loop-less : tie.Need-loop-less Inv-loop μ-loop
+loop-less c = search needs
+
+loop-again : tie.Need-loop-again Inv-loop μ-loop
+loop-again c =
+    let l = c .before in
+    let h : l .loop .i < length (l .before .args .labels .now) = omega arith in
+    (omega arith, simp length-set (l .loop .inv .1), rw (l .loop .inv .2) (fill-more (l .loop .i) missing (l .before .args .labels .now) h))
+
+mul-labels-2 : tie.Need-mul-labels-2 Inv-loop μ-loop
+mul-labels-2 c = search needs
+
+slice-write-labels-2 : tie.Need-slice-write-labels-2 Inv-loop μ-loop
+slice-write-labels-2 c = search needs
+
+same-length : tie.Need-same-length Inv-loop μ-loop
+same-length c = search needs
+
+returns : tie.Need-returns Inv-loop μ-loop
+returns c =
+    let l = c .before in
+    let all : l .loop .labels ≡ replicate (length (l .before .args .labels .now)) missing = l .loop .inv .2 ∙ filled-whole (l .loop .i) missing (l .before .args .labels .now) (omega arith) in
+    rw all
+
+pub begin-labels-spec : {M : Type 1} → statement M
+begin-labels-spec =
+    tie.close
+    (tie.spec
+    Inv-loop
+    μ-loop
+    loop-holds
+    mul-labels
+    slice-write-labels
+    add-i
+    loop-less
+    loop-again
+    mul-labels-2
+    slice-write-labels-2
+    same-length
+    returns)

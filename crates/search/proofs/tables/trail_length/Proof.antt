@@ -1,0 +1,78 @@
+-- `search::tables::trail_length` meets its contract: what is counted and the trail still to go are, together, as long as the whole
+-- trail. The node at hand and every node to come are nodes, so each read is in range. Assumes nothing.
+use Prim.Native.Nat.{_+_, _≤_, _<_, _-_}
+use mathlib.Core.Path.{_≡_}
+use mathlib.Core.List.{_∷_}
+use lib.ListN.{length}
+use native.Mathlib.Nat.{zero-add, sub-zero}
+use native.Mathlib.Omega.{arith}
+use borrow.Author.Needs.{needs}
+use Rattle.nba.specs.Result.{trail}
+use Rattle.search.specs.Tables.{NodesBelow}
+use Rattle.search.specs.TablesLaws.{trail-home, trail-next, first-below, others-below}
+use Rattle.search.proofs.tables.trail_length.Statement.{statement}
+use Rattle.search.proofs.tables.trail_length.Tie as tie
+
+abbrev Inv-loop : tie.InvT-loop
+Inv-loop neighbours home from v₀ count₀ v count =
+    (count ≤ length neighbours)
+    × (count + length (trail neighbours home (length neighbours - count) v) ≡ length (trail neighbours home (length neighbours) from))
+    × NodesBelow (length neighbours) (v ∷ trail neighbours home (length neighbours - count) v)
+
+abbrev μ-loop : tie.MeasureT-loop
+μ-loop neighbours home from v₀ count₀ v count = length neighbours - count
+
+loop-holds : tie.Need-loop-holds Inv-loop μ-loop
+loop-holds c = (omega arith, simp (zero-add, sub-zero), simp sub-zero (c .pre))
+
+returns : tie.Need-returns Inv-loop μ-loop
+returns c =
+    let l = c .before .before in
+    omega (arith, rw (trail-home _ _ _ _ (c .if1 .taken)) at (l .loop .inv .1))
+
+cast-v : tie.Need-cast-v Inv-loop μ-loop
+cast-v c = omega (arith, first-below (c .before .before .loop .inv .2))
+
+mul-v : tie.Need-mul-v Inv-loop μ-loop
+mul-v c =
+    let h : c .before .before .loop .v < length (c .before .before .before .args .neighbours .now) = first-below (c .before .before .loop .inv .2) in
+    search needs
+
+shared-slice-read-v : tie.Need-shared-slice-read-v Inv-loop μ-loop
+shared-slice-read-v c = first-below (c .before .before .before .loop .inv .2)
+
+add-count : tie.Need-add-count Inv-loop μ-loop
+add-count c = search needs
+
+loop-less : tie.Need-loop-less Inv-loop μ-loop
+loop-less c = search needs
+
+loop-again : tie.Need-loop-again Inv-loop μ-loop
+loop-again c =
+    let l = c .before .before .before in
+    let ns = l .before .args .neighbours .now in
+    let next = trail-next ns (l .loop .v) (length ns - l .loop .count) (length ns - (l .loop .count + 1)) (first-below (l .loop .inv .2)) (omega arith) (l .before .args .home) (c .before .if1 .left) in
+    (omega arith, omega (arith, rw next at (l .loop .inv .1)), others-below (rw next at (l .loop .inv .2)))
+
+returns-2 : tie.Need-returns-2 Inv-loop μ-loop
+unfolding trail
+returns-2 c =
+    let l = c .before in
+    let none : length (l .before .args .neighbours .now) - l .loop .count ≡ 0 = omega arith in
+    omega (arith, rw none at (l .loop .inv .1))
+
+pub trail-length-spec : {M : Type 1} → statement M
+trail-length-spec =
+    tie.close
+    (tie.spec
+    Inv-loop
+    μ-loop
+    loop-holds
+    returns
+    cast-v
+    mul-v
+    shared-slice-read-v
+    add-count
+    loop-less
+    loop-again
+    returns-2)

@@ -1,0 +1,66 @@
+-- `side_turn` meets its contract: it is `take_node`, the pass over the nodes and the new floor, one after the other.
+-- Assumes nothing.
+use mathlib.Core.Path.{_≡_, refl, sym, ap, _∙_}
+use native.Mathlib.Omega.{arith}
+use Rattle.nba.specs.Search.{floorAfter}
+use Rattle.search.specs.Turn.{meant}
+use Rattle.search.proofs.Ints.{back64}
+use borrow.Author.Needs.{needs}
+use Rattle.search.proofs.turn.side_turn.Statement.{statement}
+use Rattle.search.proofs.turn.side_turn.Tie as tie
+
+take-node-requires : tie.Need-take-node-requires
+take-node-requires c κs =
+    let s = c .before .before .before .before .before .before .before .before .before .before .before in
+    let k = s .pre .1 .1 in
+    (s .pre .0, (s .pre .1 .0, (k .0, rw (back64 (s .args .p .beyond) (omega (arith, k .1))) (k .1), k .2)))
+
+next-candidates-requires : tie.Need-next-candidates-requires
+next-candidates-requires c κs =
+    let s = c .before .before .before .before .before .before .before .before .before .before .before .before .before .before .before .before .before .before .before .before in
+    let p = s .pre .1 .0 in
+    let k = c .before .before .before .before .before .before .before .before .take-node .kept in
+    record {
+      few = rw (sym (k .1 .1 .1 .1 .1 .1 .1 .1 .0)) at (p .few);
+      labels-long = k .1 .1 .1 .1 .1 .0 ∙ p .labels-long ∙ sym (k .1 .1 .1 .1 .1 .1 .1 .1 .0);
+      own-long = p .own-long ∙ sym (k .1 .1 .1 .1 .1 .1 .1 .1 .0);
+      theirs-long = p .theirs-long ∙ sym (k .1 .1 .1 .1 .1 .1 .1 .1 .0);
+      other-long = p .other-long ∙ sym (k .1 .1 .1 .1 .1 .1 .1 .1 .0);
+    }
+
+floor-after-requires : tie.Need-floor-after-requires
+floor-after-requires c κs = search needs
+
+same-length : tie.Need-same-length
+same-length c = search needs
+
+same-length-2 : tie.Need-same-length-2
+same-length-2 c = search needs
+
+same-length-3 : tie.Need-same-length-3
+same-length-3 c = search needs
+
+returns : tie.Need-returns
+returns c =
+    let s = c .before .before .before .before .before .before .before .before .before .before .before .before .before .before .before .before .before .before .before .before .before .before .before in
+    let e = back64 (s .args .p .beyond) (omega (arith, s .pre .1 .1 .1)) in (
+      rw e at (c .before .before .before .before .before .before .before .before .before .before .before .take-node .ensures),
+      record {
+        mine = c .before .before .next-candidates .ensures .0;
+        yours = c .before .before .next-candidates .ensures .1;
+        floor = back64 _ (c .floor-after .ok) ∙ c .floor-after .ensures ∙ ap (λ z. floorAfter z (meant (c .before .before .next-candidates .result .own))) (back64 (s .args .p .floor) (omega (arith, s .pre .1 .1 .3)));
+        beyond = e;
+      },
+    )
+
+pub side-turn-spec : {M : Type 1} → statement M
+side-turn-spec =
+    tie.close
+    (tie.spec
+    take-node-requires
+    next-candidates-requires
+    floor-after-requires
+    same-length
+    same-length-2
+    same-length-3
+    returns)

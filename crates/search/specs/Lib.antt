@@ -1,0 +1,7 @@
+pub mod Tables
+pub mod TablesLaws
+pub mod Turn
+pub mod Run
+pub mod Promise
+pub mod Demands
+pub mod DemandLaws

@@ -1,0 +1,125 @@
+-- The turns of a search, one after the other, as the code sees them: the lent lists and the progress stand for a state of
+-- the search that `nba` defines. Assumes nothing.
+use mathlib.Core.Path.{_≡_}
+use mathlib.Core.List.{List}
+use Prim.Native.Nat.{ℕ, _<_, _≤_, _^_}
+use lib.IntN.{ℤ}
+use lib.ListN.{length}
+use lib.Signed.{mag}
+use Rattle.network.specs.Network.{Side, start, end, other, Network, mostNodes}
+use Rattle.network.specs.Query.{Query, query, sideOfTurn}
+use Rattle.nba.specs.State.{Half, State, state}
+use Rattle.nba.specs.Search.{node, candidate, turn, beginning, afterTurns}
+use Rattle.search.specs.declared.turn.Best.{Best}
+use Rattle.search.specs.declared.turn.Progress.{Progress}
+use Rattle.search.specs.Turn.{meant}
+
+-- the state that a side's own lists, the other side's, the states and the side's progress stand for
+abbrev pub standingOf : Side → List ℕ → List ℕ → List ℕ → List ℕ → List ℕ → Progress → State
+standingOf s labels neighbours theirs beyond states p =
+    state s (record { labels = labels; neighbours = neighbours; floor = p .floor })
+    (record { labels = theirs; neighbours = beyond; floor = p .beyond }) states (p .length) (p .meeting)
+
+-- the same seen from the start side, as the search holds it
+abbrev pub standing : List ℕ → List ℕ → List ℕ → List ℕ → List ℕ → Progress → State
+standing = standingOf start
+
+-- the progress, seen from side s, knows what each side takes next
+pub record Known (q : Query) (s : Side) (st : State) (p : Progress) : Type 0 where
+  pub mine : meant (p .own) ≡ candidate q s st
+  pub yours : meant (p .other) ≡ candidate q (other s) st
+
+-- the floors are sums of a label and a potential, far within 64 bits
+pub record Floors (p : Progress) : Type 0 where
+  pub floor : mag (p .floor) < 2 ^ 40
+  pub beyond : mag (p .beyond) < 2 ^ 40
+
+-- every table has one entry a node
+pub record Long (n : ℕ) (labels neighbours theirs beyond states : List ℕ) : Type 0 where
+  pub labels-long : length labels ≡ n
+  pub neighbours-long : length neighbours ≡ n
+  pub theirs-long : length theirs ≡ n
+  pub beyond-long : length beyond ≡ n
+  pub states-long : length states ≡ n
+
+-- the progress seen from the other side
+abbrev pub swappedOf : Progress → Progress
+swappedOf p = record { length = p .length; meeting = p .meeting; floor = p .beyond; beyond = p .floor; own = p .other; other = p .own }
+
+-- turn number i, of the side that the repeated pattern names
+abbrev pub turnOf : Query → ℕ → State → State
+turnOf q i st = turn q (sideOfTurn (q .pattern) i) st
+
+-- the progress of a search knows what each side takes next
+abbrev pub Foreseen : Query → State → Progress → Type 0
+Foreseen q st p = Known q start st p
+
+-- what a turn asks: both sides have a node to take, the start side a and the end side b
+pub record Taking (q : Query) (st : State) (a b : ℕ) (p : Progress) : Type 0 where
+  pub start-key : ℤ
+  pub start-takes : candidate q start st ≡ node a start-key
+  pub end-key : ℤ
+  pub end-takes : candidate q end st ≡ node b end-key
+  pub floors : Floors p
+
+-- what the beginning of a search asks: a potential for each node, and start and end among the nodes
+pub record Beginning (n : ℕ) (forward backward : List ℤ) (s e : ℕ) : Type 0 where
+  pub few : n ≤ mostNodes
+  pub forward-long : length forward ≡ n
+  pub backward-long : length backward ≡ n
+  pub start-in : s < n
+  pub end-in : e < n
+
+-- a search has begun: the state is that of step 1, whatever the arcs and the pattern, and the progress knows what is next
+pub record Begun (n : ℕ) (forward backward : List ℤ) (s e : ℕ) (st : State) (p : Progress) : Type 0 where
+  pub at-first : (g : Network) (pattern : List ℕ) → g .nodes ≡ n → st ≡ beginning (query g forward backward s e pattern)
+  pub foreseen : (g : Network) (pattern : List ℕ) → g .nodes ≡ n → Foreseen (query g forward backward s e pattern) st p
+
+-- a search is under way: it is in its state after i turns, and the progress knows what is next
+pub record Underway (q : Query) (i : ℕ) (st : State) (p : Progress) : Type 0 where
+  pub here : st ≡ afterTurns q i
+  pub foreseen : Foreseen q st p
+
+-- the state after as many turns as there are nodes
+abbrev pub lastState : Query → State
+lastState q = afterTurns q (q .network .nodes)
+
+-- the tables of a state, its best length and its meeting node: all of it but the floors
+pub record Tables : Type 0 where
+  pub start-labels : List ℕ
+  pub start-neighbours : List ℕ
+  pub end-labels : List ℕ
+  pub end-neighbours : List ℕ
+  pub states : List ℕ
+  pub best : ℕ
+  pub meeting : ℕ
+
+abbrev pub tables : List ℕ → List ℕ → List ℕ → List ℕ → List ℕ → Best → Tables
+tables sl sn el en states best = record {
+  start-labels = sl;
+  start-neighbours = sn;
+  end-labels = el;
+  end-neighbours = en;
+  states = states;
+  best = best .length;
+  meeting = best .node;
+}
+
+abbrev pub tablesOf : State → Tables
+tablesOf st = record {
+  start-labels = st .start-half .labels;
+  start-neighbours = st .start-half .neighbours;
+  end-labels = st .end-half .labels;
+  end-neighbours = st .end-half .neighbours;
+  states = st .states;
+  best = st .best;
+  meeting = st .meeting;
+}
+
+-- the lists are the tables of a state
+pub record Filled (st : State) (sl sn el en marks : List ℕ) : Type 0 where
+  pub start-labels : sl ≡ st .start-half .labels
+  pub start-neighbours : sn ≡ st .start-half .neighbours
+  pub end-labels : el ≡ st .end-half .labels
+  pub end-neighbours : en ≡ st .end-half .neighbours
+  pub states : marks ≡ st .states

@@ -1,0 +1,69 @@
+-- What is promised of a search's tables: the figures counted from the states, and the path written from the neighbours.
+-- Assumes nothing.
+use mathlib.Core.Path.{_≡_}
+use mathlib.Core.Bool.{not}
+use mathlib.Core.List.{List, [], _∷_, _++_}
+use Prim.Native.Nat.{ℕ, zero, suc, _+_, _≤_, _<_}
+use lib.Dec.{eqb}
+use lib.ListN.{length, getD, drop}
+use Rattle.network.specs.declared.Figures.{Figures}
+use Rattle.network.specs.Network.{start, end, mostNodes}
+use Rattle.nba.specs.State.{noNode, undecided, openedBy, rejectedBy}
+use Rattle.nba.specs.Result.{trail, turnedBefore, countOf}
+
+-- the figures of a table of states: each is a count of states, and turns is the number of nodes that left
+unfoldable pub figuresIn : List ℕ → Figures
+figuresIn states = record {
+  turns = countOf (λ x. not (eqb undecided x)) states;
+  «opened_by_start» = countOf (eqb (openedBy start)) states;
+  «opened_by_end» = countOf (eqb (openedBy end)) states;
+  rejected = countOf (eqb (rejectedBy start)) states + countOf (eqb (rejectedBy end)) states;
+}
+
+-- the figures of two tables together: each is the sum of the two
+unfoldable pub together : Figures → Figures → Figures
+together f g = record {
+  turns = f .turns + g .turns;
+  «opened_by_start» = f .«opened_by_start» + g .«opened_by_start»;
+  «opened_by_end» = f .«opened_by_end» + g .«opened_by_end»;
+  rejected = f .rejected + g .rejected;
+}
+
+-- figures to which one node more can be added: none is above twice the largest number of nodes
+pub record Countable (f : Figures) : Type 0 where
+  pub turns : f .turns ≤ mostNodes + mostNodes
+  pub by-start : f .«opened_by_start» ≤ mostNodes + mostNodes
+  pub by-end : f .«opened_by_end» ≤ mostNodes + mostNodes
+  pub rejected : f .rejected ≤ mostNodes + mostNodes
+
+-- the next k nodes after v, from neighbour to neighbour
+unfoldable pub onward : List ℕ → ℕ → ℕ → List ℕ
+onward neighbours zero v = []
+onward neighbours (suc k) v = getD neighbours v noNode ∷ onward neighbours k (getD neighbours v noNode)
+
+-- every entry of the list is a node of a network of n nodes
+pub data NodesBelow (n : ℕ) : List ℕ → Type 0 where
+  no-entries : NodesBelow n []
+  one-node : {v : ℕ} {nodes : List ℕ} → v < n → NodesBelow n nodes → NodesBelow n (v ∷ nodes)
+
+-- the path through the meeting node: back along start-side neighbours to the start, on along end-side neighbours to the end
+unfoldable pub pathThrough : List ℕ → List ℕ → ℕ → ℕ → ℕ → List ℕ
+pathThrough startward endward s e meeting =
+    turnedBefore (trail startward s (length startward) meeting) (meeting ∷ trail endward e (length endward) meeting)
+
+-- nodes from a list's first entry on; the entries beyond them keep their old values
+unfoldable pub atFront : List ℕ → List ℕ → List ℕ
+atFront nodes old = nodes ++ drop (length nodes) old
+
+-- what writing a path asks: it is of nodes and no longer than there are nodes, and the list has room for as many
+pub record PathRoom (path startward endward : List ℕ) (s e meeting : ℕ) : Type 0 where
+  -- both sides have a neighbour for each node
+  pub as-many : length endward ≡ length startward
+  -- there are at most 2,048 nodes
+  pub few : length startward ≤ mostNodes
+  -- the path list has room for as many entries as there are nodes
+  pub room : length startward ≤ length path
+  -- the path has at most as many entries as there are nodes
+  pub short : length (pathThrough startward endward s e meeting) ≤ length startward
+  -- every entry of the path is a node
+  pub nodes : NodesBelow (length startward) (pathThrough startward endward s e meeting)

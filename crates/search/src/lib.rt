@@ -1,0 +1,183 @@
+// The route query over lists that the caller lends. It tests the query by document 01's table; a refusal comes before
+// anything is written. An accepted query is searched as `nba` defines it, turn for turn, on the first entries of the lists.
+pub mod run;
+pub mod tables;
+pub mod turn;
+
+use network::Answer;
+use network::Lent;
+use network::Verdict;
+ghost use mathlib.Core.Path.{_≡_};
+ghost use Prim.Native.Nat.{_≤_};
+ghost use lib.ListN.{length};
+ghost use Rattle.network.specs.Given.{Sound};
+ghost use Rattle.network.specs.Network.{network};
+ghost use Rattle.network.specs.Query.{query as asked};
+ghost use Rattle.network.specs.Refusal.{queryVerdict};
+ghost use Rattle.nba.specs.Result.{found};
+ghost use Rattle.nba.specs.Search.{endState};
+ghost use Rattle.search.specs.Demands.{Demand1, Demand2, Demand3};
+ghost use Rattle.search.specs.Promise.{left, lengths, lists, queried, searched as leaves, shownPath};
+ghost use Rattle.search.specs.Run.{Filled, Long};
+ghost use Rattle.search.specs.Tables.{atFront};
+
+// The search of an accepted query, on lists with exactly one entry a node and a path list with room for as many.
+fn searched(
+    tails: &[u16],
+    heads: &[u16],
+    weights: &[u32],
+    forward: &[i32],
+    backward: &[i32],
+    start: u16,
+    end: u16,
+    pattern: &[u8],
+    start_labels: &mut [u32],
+    start_neighbours: &mut [u16],
+    end_labels: &mut [u32],
+    end_neighbours: &mut [u16],
+    states: &mut [u8],
+    path: &mut [u16],
+) -> Answer
+    requires { ⌜ Sound (asked (network (length (now states)) (now tails) (now heads) (now weights)) (now forward) (now backward) start end (now pattern)) ⌝ }
+    requires { ⌜ Long (length (now states)) (now «start_labels») (now «start_neighbours») (now «end_labels») (now «end_neighbours») (now states) ⌝ }
+    requires { ⌜ length (now states) ≤ length (now path) ⌝ }
+    ensures answer { λ r. ⌜ r ≡ found (asked (network (length (now (states .entry))) (now (tails .entry)) (now (heads .entry)) (now (weights .entry))) (now (forward .entry)) (now (backward .entry)) start end (now (pattern .entry))) ⌝ }
+    ensures tables { λ _. ⌜ Filled (endState (asked (network (length (now (states .entry))) (now (tails .entry)) (now (heads .entry)) (now (weights .entry))) (now (forward .entry)) (now (backward .entry)) start end (now (pattern .entry)))) (now («start_labels» .exit)) (now («start_neighbours» .exit)) (now («end_labels» .exit)) (now («end_neighbours» .exit)) (now (states .exit)) ⌝ }
+    ensures path { λ _. ⌜ now (path .exit) ≡ atFront (shownPath (asked (network (length (now (states .entry))) (now (tails .entry)) (now (heads .entry)) (now (weights .entry))) (now (forward .entry)) (now (backward .entry)) start end (now (pattern .entry))) (endState (asked (network (length (now (states .entry))) (now (tails .entry)) (now (heads .entry)) (now (weights .entry))) (now (forward .entry)) (now (backward .entry)) start end (now (pattern .entry))))) (now (path .entry)) ⌝ }
+{
+    let best = run::find(
+        tails,
+        heads,
+        weights,
+        forward,
+        backward,
+        start,
+        end,
+        pattern,
+        start_labels,
+        start_neighbours,
+        end_labels,
+        end_neighbours,
+        states,
+    );
+    let length = best.length;
+    let meeting = best.node;
+    let figures = tables::count_states(states);
+    if tables::MISSING <= length {
+        return Answer::NoRoute(figures);
+    }
+    let nodes = tables::write_path(path, start_neighbours, end_neighbours, start, end, meeting);
+    Answer::Route {
+        length,
+        nodes,
+        figures,
+    }
+}
+
+// The search of a query that is accepted already: for a caller that has tested its network once and each trip by itself.
+// What it asks is exactly that the table accepts the query.
+pub fn search_accepted(
+    nodes: u16,
+    tails: &[u16],
+    heads: &[u16],
+    weights: &[u32],
+    forward: &[i32],
+    backward: &[i32],
+    start: u16,
+    end: u16,
+    pattern: &[u8],
+    start_labels: &mut [u32],
+    start_neighbours: &mut [u16],
+    end_labels: &mut [u32],
+    end_neighbours: &mut [u16],
+    states: &mut [u8],
+    path: &mut [u16],
+) -> Answer
+    requires { ⌜ queryVerdict (asked (network nodes (now tails) (now heads) (now weights)) (now forward) (now backward) start end (now pattern)) (lengths (lists (now «start_labels») (now «start_neighbours») (now «end_labels») (now «end_neighbours») (now states) (now path))) ≡ Verdict.Accepted ⌝ }
+    ensures { λ r. ⌜ left r (lists (now («start_labels» .exit)) (now («start_neighbours» .exit)) (now («end_labels» .exit)) (now («end_neighbours» .exit)) (now (states .exit)) (now (path .exit))) ≡ left (found (asked (network nodes (now (tails .entry)) (now (heads .entry)) (now (weights .entry))) (now (forward .entry)) (now (backward .entry)) start end (now (pattern .entry)))) (leaves (asked (network nodes (now (tails .entry)) (now (heads .entry)) (now (weights .entry))) (now (forward .entry)) (now (backward .entry)) start end (now (pattern .entry))) (lists (now («start_labels» .entry)) (now («start_neighbours» .entry)) (now («end_labels» .entry)) (now («end_neighbours» .entry)) (now (states .entry)) (now (path .entry)))) ⌝ }
+{
+    let n = nodes as usize;
+    searched(
+        tails,
+        heads,
+        weights,
+        forward,
+        backward,
+        start,
+        end,
+        pattern,
+        &mut start_labels[..n],
+        &mut start_neighbours[..n],
+        &mut end_labels[..n],
+        &mut end_neighbours[..n],
+        &mut states[..n],
+        path,
+    )
+}
+
+// The query: tested by the whole table, and searched if it is accepted.
+pub fn query(
+    nodes: u16,
+    tails: &[u16],
+    heads: &[u16],
+    weights: &[u32],
+    forward: &[i32],
+    backward: &[i32],
+    start: u16,
+    end: u16,
+    pattern: &[u8],
+    start_labels: &mut [u32],
+    start_neighbours: &mut [u16],
+    end_labels: &mut [u32],
+    end_neighbours: &mut [u16],
+    states: &mut [u8],
+    path: &mut [u16],
+) -> Answer
+    ensures leaves { λ r. ⌜ left r (lists (now («start_labels» .exit)) (now («start_neighbours» .exit)) (now («end_labels» .exit)) (now («end_neighbours» .exit)) (now (states .exit)) (now (path .exit))) ≡ queried (asked (network nodes (now (tails .entry)) (now (heads .entry)) (now (weights .entry))) (now (forward .entry)) (now (backward .entry)) start end (now (pattern .entry))) (lists (now («start_labels» .entry)) (now («start_neighbours» .entry)) (now («end_labels» .entry)) (now («end_neighbours» .entry)) (now (states .entry)) (now (path .entry))) ⌝ }
+    ensures demand1 { λ r. ⌜ Demand1 (asked (network nodes (now (tails .entry)) (now (heads .entry)) (now (weights .entry))) (now (forward .entry)) (now (backward .entry)) start end (now (pattern .entry))) (lists (now («start_labels» .entry)) (now («start_neighbours» .entry)) (now («end_labels» .entry)) (now («end_neighbours» .entry)) (now (states .entry)) (now (path .entry))) (lists (now («start_labels» .exit)) (now («start_neighbours» .exit)) (now («end_labels» .exit)) (now («end_neighbours» .exit)) (now (states .exit)) (now (path .exit))) r ⌝ }
+    ensures demand2 { λ r. ⌜ Demand2 (asked (network nodes (now (tails .entry)) (now (heads .entry)) (now (weights .entry))) (now (forward .entry)) (now (backward .entry)) start end (now (pattern .entry))) (lists (now («start_labels» .exit)) (now («start_neighbours» .exit)) (now («end_labels» .exit)) (now («end_neighbours» .exit)) (now (states .exit)) (now (path .exit))) r ⌝ }
+    ensures demand3 { λ r. ⌜ Demand3 (asked (network nodes (now (tails .entry)) (now (heads .entry)) (now (weights .entry))) (now (forward .entry)) (now (backward .entry)) start end (now (pattern .entry))) (lists (now («start_labels» .exit)) (now («start_neighbours» .exit)) (now («end_labels» .exit)) (now («end_neighbours» .exit)) (now (states .exit)) (now (path .exit))) r ⌝ }
+{
+    let lent = Lent {
+        start_labels: start_labels.len(),
+        start_neighbours: start_neighbours.len(),
+        end_labels: end_labels.len(),
+        end_neighbours: end_neighbours.len(),
+        states: states.len(),
+        path: path.len(),
+    };
+    let verdict = network::check_query(
+        nodes,
+        tails,
+        heads,
+        weights,
+        forward,
+        backward,
+        start,
+        end,
+        pattern,
+        lent,
+    );
+    match verdict {
+        Verdict::Refused(cause) => Answer::Refused(cause),
+        Verdict::Accepted => {
+            search_accepted(
+                nodes,
+                tails,
+                heads,
+                weights,
+                forward,
+                backward,
+                start,
+                end,
+                pattern,
+                start_labels,
+                start_neighbours,
+                end_labels,
+                end_neighbours,
+                states,
+                path,
+            )
+        }
+    }
+}

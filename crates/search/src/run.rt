@@ -1,0 +1,244 @@
+// The turns of a search, one after the other, from the beginning to the end, on lists with exactly one entry a node. The
+// pattern says whose turn it is; a turn is made by `turn::side_turn` on the lists of that side.
+ghost use mathlib.Core.Path.{_≡_};
+ghost use Prim.Native.Nat.{_<_};
+ghost use lib.ListN.{length};
+ghost use Rattle.network.specs.Given.{Sound};
+ghost use Rattle.network.specs.Network.{network};
+ghost use Rattle.network.specs.Query.{query};
+ghost use Rattle.nba.specs.Search.{endState};
+ghost use Rattle.search.specs.Run.{Beginning, Begun, Foreseen, Long, Taking, Underway, lastState, standing, swappedOf, tables, tablesOf, turnOf};
+use crate::tables;
+use crate::turn;
+use crate::turn::Best;
+use crate::turn::Candidate;
+use crate::turn::Progress;
+
+// The progress seen from the other side.
+fn swapped(p: Progress) -> Progress
+    ensures { λ r. ⌜ r ≡ swappedOf p ⌝ }
+{
+    let own = p.own;
+    let other = p.other;
+    Progress {
+        length: p.length,
+        meeting: p.meeting,
+        floor: p.beyond,
+        beyond: p.floor,
+        own: other,
+        other: own,
+    }
+}
+
+// Turn number `turns`, of the side that the repeated pattern names: `a` is what the start side takes if it is its turn, `b`
+// what the end side takes.
+fn next_turn(
+    tails: &[u16],
+    heads: &[u16],
+    weights: &[u32],
+    forward: &[i32],
+    backward: &[i32],
+    start: u16,
+    end: u16,
+    pattern: &[u8],
+    start_labels: &mut [u32],
+    start_neighbours: &mut [u16],
+    end_labels: &mut [u32],
+    end_neighbours: &mut [u16],
+    states: &mut [u8],
+    turns: usize,
+    a: u16,
+    b: u16,
+    p: Progress,
+) -> Progress
+    requires { ⌜ Sound (query (network (length (now states)) (now tails) (now heads) (now weights)) (now forward) (now backward) start end (now pattern)) ⌝ }
+    requires { ⌜ Long (length (now states)) (now «start_labels») (now «start_neighbours») (now «end_labels») (now «end_neighbours») (now states) ⌝ }
+    requires { ⌜ Taking (query (network (length (now states)) (now tails) (now heads) (now weights)) (now forward) (now backward) start end (now pattern)) (standing (now «start_labels») (now «start_neighbours») (now «end_labels») (now «end_neighbours») (now states) p) a b p ⌝ }
+    ensures turned { λ r. ⌜ standing (now («start_labels» .exit)) (now («start_neighbours» .exit)) (now («end_labels» .exit)) (now («end_neighbours» .exit)) (now (states .exit)) r ≡ turnOf (query (network (length (now (states .entry))) (now (tails .entry)) (now (heads .entry)) (now (weights .entry))) (now (forward .entry)) (now (backward .entry)) start end (now (pattern .entry))) turns (standing (now («start_labels» .entry)) (now («start_neighbours» .entry)) (now («end_labels» .entry)) (now («end_neighbours» .entry)) (now (states .entry)) p) ⌝ }
+    ensures known { λ r. ⌜ Foreseen (query (network (length (now (states .entry))) (now (tails .entry)) (now (heads .entry)) (now (weights .entry))) (now (forward .entry)) (now (backward .entry)) start end (now (pattern .entry))) (standing (now («start_labels» .exit)) (now («start_neighbours» .exit)) (now («end_labels» .exit)) (now («end_neighbours» .exit)) (now (states .exit)) r) r ⌝ }
+{
+    let at = turns % pattern.len();
+    if pattern[at] == 0 {
+        return turn::side_turn(
+            tails,
+            heads,
+            weights,
+            forward,
+            backward,
+            start_labels,
+            start_neighbours,
+            end_labels,
+            states,
+            a,
+            end,
+            tables::OPENED_BY_START,
+            p,
+        );
+    }
+    let there = swapped(p);
+    let after = turn::side_turn(
+        heads,
+        tails,
+        weights,
+        backward,
+        forward,
+        end_labels,
+        end_neighbours,
+        start_labels,
+        states,
+        b,
+        start,
+        tables::OPENED_BY_END,
+        there,
+    );
+    swapped(after)
+}
+
+// Step 1: the tables at the beginning of a search, the two floors, and what each side takes first.
+fn begin(
+    forward: &[i32],
+    backward: &[i32],
+    start: u16,
+    end: u16,
+    start_labels: &mut [u32],
+    start_neighbours: &mut [u16],
+    end_labels: &mut [u32],
+    end_neighbours: &mut [u16],
+    states: &mut [u8],
+) -> Progress
+    requires { ⌜ Long (length (now states)) (now «start_labels») (now «start_neighbours») (now «end_labels») (now «end_neighbours») (now states) ⌝ }
+    requires { ⌜ Beginning (length (now states)) (now forward) (now backward) start end ⌝ }
+    ensures { λ r. ⌜ Begun (length (now (states .entry))) (now (forward .entry)) (now (backward .entry)) start end (standing (now («start_labels» .exit)) (now («start_neighbours» .exit)) (now («end_labels» .exit)) (now («end_neighbours» .exit)) (now (states .exit)) r) r ⌝ }
+{
+    tables::begin_labels(start_labels, start);
+    tables::begin_neighbours(start_neighbours);
+    tables::begin_labels(end_labels, end);
+    tables::begin_neighbours(end_neighbours);
+    tables::begin_states(states);
+    let next = turn::next_candidates(states, start_labels, forward, end_labels, backward);
+    let own = next.own;
+    let other = next.other;
+    Progress {
+        length: tables::MISSING,
+        meeting: tables::NO_NODE,
+        floor: forward[start as usize] as i64,
+        beyond: backward[end as usize] as i64,
+        own,
+        other,
+    }
+}
+
+// Turns are made until a side has no labelled undecided node: at most as many as there are nodes.
+fn run_turns(
+    tails: &[u16],
+    heads: &[u16],
+    weights: &[u32],
+    forward: &[i32],
+    backward: &[i32],
+    start: u16,
+    end: u16,
+    pattern: &[u8],
+    start_labels: &mut [u32],
+    start_neighbours: &mut [u16],
+    end_labels: &mut [u32],
+    end_neighbours: &mut [u16],
+    states: &mut [u8],
+    first: Progress,
+) -> Best
+    requires { ⌜ Sound (query (network (length (now states)) (now tails) (now heads) (now weights)) (now forward) (now backward) start end (now pattern)) ⌝ }
+    requires { ⌜ Long (length (now states)) (now «start_labels») (now «start_neighbours») (now «end_labels») (now «end_neighbours») (now states) ⌝ }
+    requires { ⌜ Underway (query (network (length (now states)) (now tails) (now heads) (now weights)) (now forward) (now backward) start end (now pattern)) 0 (standing (now «start_labels») (now «start_neighbours») (now «end_labels») (now «end_neighbours») (now states) first) first ⌝ }
+    ensures { λ r. ⌜ tables (now («start_labels» .exit)) (now («start_neighbours» .exit)) (now («end_labels» .exit)) (now («end_neighbours» .exit)) (now (states .exit)) r ≡ tablesOf (lastState (query (network (length (now (states .entry))) (now (tails .entry)) (now (heads .entry)) (now (weights .entry))) (now (forward .entry)) (now (backward .entry)) start end (now (pattern .entry)))) ⌝ }
+{
+    let mut p = first;
+    let mut turns: usize = 0;
+    'turns: loop {
+        let own = p.own;
+        let Candidate::Node(a, _) = own else {
+            break 'turns;
+        };
+        let other = p.other;
+        let Candidate::Node(b, _) = other else {
+            break 'turns;
+        };
+        p = next_turn(
+            tails,
+            heads,
+            weights,
+            forward,
+            backward,
+            start,
+            end,
+            pattern,
+            start_labels,
+            start_neighbours,
+            end_labels,
+            end_neighbours,
+            states,
+            turns,
+            a,
+            b,
+            p,
+        );
+        turns += 1;
+    }
+    Best {
+        length: p.length,
+        node: p.meeting,
+    }
+}
+
+// The tables at the end of a search. Start equal to end is a route of length 0 with the tables as at the beginning.
+pub fn find(
+    tails: &[u16],
+    heads: &[u16],
+    weights: &[u32],
+    forward: &[i32],
+    backward: &[i32],
+    start: u16,
+    end: u16,
+    pattern: &[u8],
+    start_labels: &mut [u32],
+    start_neighbours: &mut [u16],
+    end_labels: &mut [u32],
+    end_neighbours: &mut [u16],
+    states: &mut [u8],
+) -> Best
+    requires { ⌜ Sound (query (network (length (now states)) (now tails) (now heads) (now weights)) (now forward) (now backward) start end (now pattern)) ⌝ }
+    requires { ⌜ Long (length (now states)) (now «start_labels») (now «start_neighbours») (now «end_labels») (now «end_neighbours») (now states) ⌝ }
+    ensures { λ r. ⌜ tables (now («start_labels» .exit)) (now («start_neighbours» .exit)) (now («end_labels» .exit)) (now («end_neighbours» .exit)) (now (states .exit)) r ≡ tablesOf (endState (query (network (length (now (states .entry))) (now (tails .entry)) (now (heads .entry)) (now (weights .entry))) (now (forward .entry)) (now (backward .entry)) start end (now (pattern .entry)))) ⌝ }
+{
+    let first = begin(
+        forward,
+        backward,
+        start,
+        end,
+        start_labels,
+        start_neighbours,
+        end_labels,
+        end_neighbours,
+        states,
+    );
+    if start == end {
+        return Best {
+            length: 0,
+            node: start,
+        };
+    }
+    run_turns(
+        tails,
+        heads,
+        weights,
+        forward,
+        backward,
+        start,
+        end,
+        pattern,
+        start_labels,
+        start_neighbours,
+        end_labels,
+        end_neighbours,
+        states,
+        first,
+    )
+}
