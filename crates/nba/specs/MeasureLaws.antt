@@ -9,6 +9,7 @@ use borrow.Author.Tests.{ltb-true, leb-true, lt-ltb, le-leb}
 use Rattle.network.specs.Network.{Side, start, end, other}
 use Rattle.network.specs.Walk.{Step, Walk}
 use Rattle.network.specs.WalkLaws.{walk-turned}
+use Rattle.network.specs.SoundLaws.{range-fine}
 use Rattle.network.specs.Potential.{potentialAt}
 use Rattle.network.specs.Query.{Query, potentials, source}
 use Rattle.network.specs.Given.{Sound}
@@ -45,7 +46,7 @@ state-for end m h = by-eq m 0 is-undecided (λ a. by-eq m 3 is-opened (λ b. by-
 -- ---- potentials of an accepted query
 module _ {q : Query} (sound : Sound q) where
   pub shiftable : (s : Side) → Shiftable (potentials s q)
-  shiftable s = record { fits = λ v. omega (arith, sound .in-range s v) }
+  shiftable s = record { fits = λ v. omega (arith, range-fine _ (sound .in-range s v)) }
 
   pub over-step : (s : Side) {u v w : ℕ} → Step s (q .network) u v w → potential q s u ≤ w + potential q s v
   over-step s e = potential-over-step (shiftable s) (sound .consistent s) e

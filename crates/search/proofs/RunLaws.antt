@@ -19,6 +19,7 @@ use Rattle.network.specs.Query.{Query, potentials, source, sideOfTurn}
 use Rattle.nba.specs.State.{missing, noNode, Half, State, half, undecided, openedBy, state}
 use Rattle.nba.specs.Search.{Candidate as Chosen, none, node, isNone, leastBelow, candidate, rejects, rejected, arcsBelow, arcsOf, Reach, lookAt, lookAtEach, floorAfter, halfAfter, afterReach, reachOf, rejecting, opening, takes, turn, ended, turnUnlessEnded, afterTurns, beginning, beginningHalf, atOnce, endState}
 use Rattle.network.specs.Shift.{mag-add}
+use Rattle.network.specs.SoundLaws.{range-fine}
 use Rattle.nba.specs.StateLaws.{both-sides, half-own, half-theirs}
 use Rattle.nba.specs.LeastLaws.{LeastAt, Choice, no-node, least-node, choice-is}
 use Rattle.nba.specs.MeasureLaws.{shiftable}
@@ -201,7 +202,7 @@ long-swapped l = record {
 -- ---- floors are far within 64 bits
 module _ {q : Query} (sound : Sound q) where
   key-small : (s : Side) (l u : ℕ) → l < missing → mag (pos l +ℤ potentialAt (potentials s q) u) < 2 ^ 40
-  key-small s l u h = omega (arith, mag-add (2 ^ 32) (2 ^ 31) (pos l) (potentialAt (potentials s q) u) (omega arith) (omega (arith, sound .in-range s u)))
+  key-small s l u h = omega (arith, mag-add (2 ^ 32) (2 ^ 31) (pos l) (potentialAt (potentials s q) u) (omega arith) (omega (arith, range-fine _ (sound .in-range s u))))
 
   floor-after-small : (s : Side) (old : ℤ) (labels states : List ℕ) → mag old < 2 ^ 40
       → mag (floorAfter old (leastBelow labels states (potentials s q) (q .network .nodes))) < 2 ^ 40
@@ -230,7 +231,7 @@ module _ {q : Query} (sound : Sound q) where
 
   pub floors-small : (i : ℕ) → SmallFloors (afterTurns q i)
   unfolding afterTurns turnUnlessEnded turn beginning beginningHalf
-  floors-small zero = record { small = both-sides (λ t. mag (half t (beginning q) .floor) < 2 ^ 40) start (omega (arith, sound .in-range start (q .start))) (omega (arith, sound .in-range end (q .end))) }
+  floors-small zero = record { small = both-sides (λ t. mag (half t (beginning q) .floor) < 2 ^ 40) start (omega (arith, range-fine _ (sound .in-range start (q .start)))) (omega (arith, range-fine _ (sound .in-range end (q .end)))) }
   floors-small (suc i) = cases SmallFloors (ended q (afterTurns q i)) (λ h. floors-small i) (λ h. takes-small (sideOfTurn (q .pattern) i) (candidate q (sideOfTurn (q .pattern) i) (afterTurns q i)) (afterTurns q i) (floors-small i))
 
 -- ---- the beginning
