@@ -1,0 +1,15 @@
+//! An independent program for document 01: the network, the search and the
+//! frames once more, written from the document alone and on purpose in another
+//! shape than the delivered code. Nothing here is fast; it is meant to be read.
+
+pub mod check;
+mod damage;
+pub mod display;
+pub mod frames;
+pub mod laws;
+pub mod make;
+pub mod model;
+mod potentials;
+pub mod program;
+pub mod random;
+pub mod selftest;

@@ -1,0 +1,324 @@
+//! Tests of the independent program itself: document 01's cases, the order of
+//! lines, the demands over made files, and that the tests notice faults.
+
+use crate::check;
+use crate::display::{self, Shown};
+use crate::frames::{self, answer_file, answer_file_up_to, Reader};
+use crate::make;
+use crate::model::{self, Answer, Arc, Fault, Network, Node, Query, MOST_NODES, TOP_WEIGHT};
+
+type Passed = Result<(), String>;
+
+type Test = (&'static str, fn() -> Passed);
+
+const TESTS: [Test; 11] = [
+    ("document 01's cases P1 to P12", cases),
+    ("document 01's run-only cases", run_only_cases),
+    ("sound frames and others", sound_frames),
+    ("the order of lines", order_of_lines),
+    ("line 4,294,967,295", last_line),
+    ("the display's one query", one_query),
+    ("rooms are judged rightly", rooms_judged),
+    ("the largest shortest length", largest_length),
+    ("made files: the same for the same seed, and read back", made_files),
+    ("the demands over made files", demands),
+    ("every fault is noticed", faults_noticed),
+];
+
+pub fn run() -> bool {
+    let mut failed = 0;
+    for (name, test) in TESTS {
+        match test() {
+            Ok(()) => println!("passed: {name}"),
+            Err(what) => {
+                failed += 1;
+                println!("FAILED: {name}: {what}");
+            }
+        }
+    }
+    println!("selftest: {} passed, {failed} failed", TESTS.len() - failed);
+    failed == 0
+}
+
+fn same(name: &str, got: &str, expected: &str) -> Passed {
+    if got == expected {
+        return Ok(());
+    }
+    Err(format!("{name}: got {got:?}, expected {expected:?}"))
+}
+
+fn program(file: &str) -> String {
+    String::from_utf8_lossy(&answer_file(file.as_bytes(), Reader::Program, None).output).into_owned()
+}
+
+fn shown(file: &str) -> String {
+    String::from_utf8_lossy(&answer_file(file.as_bytes(), Reader::Display, None).output).into_owned()
+}
+
+// ---------------------------------------------------------------- cases of document 01
+
+/// District D5 without a query, as document 01 prints it.
+const D5: &str = "0100050005
+020000000100000001
+020001000200000001
+020002000300000001
+020000000400000002
+020004000300000002
+0300000000000000000000
+0300010000000000000000
+0300020000000000000000
+0300030000000000000000
+0300040000000000000000
+";
+
+/// Two nodes and one arc from 0 to 1, with a query from 0 to 1 and pattern 0.
+fn pair(weight: &str, first: &str, second: &str) -> String {
+    format!("0100020001\n0200000001{weight}\n030000{first}\n030001{second}\n0400000001010\n")
+}
+
+const ZERO: &str = "0000000000000000";
+
+/// What a pair answers where it passes, with the length's digits.
+fn pair_route(length: &str) -> String {
+    format!("81{length}00020002000100000001\n8200000001\n")
+}
+
+fn cases() -> Passed {
+    let d5 = |query: &str| program(&format!("{D5}{query}\n"));
+    same("P1", &d5("04000000030201"), "810000000300040005000200010002\n820000000100020003\n")?;
+    same("P2", &d5("0400000003011"), "810000000300040005000000040001\n820000000100020003\n")?;
+    same("P3", &d5("04000200020201"), "810000000000010000000000000000\n820002\n")?;
+    same("P4", &d5("04000300000201"), "800001000100000000\n")?;
+    same("P5", &program(&pair("00000001", "0000000100000000", ZERO)), &pair_route("00000001"))?;
+    same("P6", &program(&pair("00000001", "0000000200000000", ZERO)), "FF0900000000\n")?;
+    same("P7", &program(&pair("000F4240", ZERO, ZERO)), &pair_route("000F4240"))?;
+    same("P8", &program(&pair("000F4241", ZERO, ZERO)), "FF0700000000\n")?;
+    let low = "85FD424085FD4240";
+    same("P9", &program(&pair("00000001", low, low)), &pair_route("00000001"))?;
+    same("P10, h", &program(&pair("00000001", "85FD423F85FD4240", low)), "FF0800000000\n")?;
+    same("P10, k", &program(&pair("00000001", "85FD424085FD423F", low)), "FF0800000000\n")?;
+    same(
+        "P11",
+        &program("0100010000\n0300000000000000000000\n0400000000010\n"),
+        "810000000000010000000000000000\n820000\n",
+    )?;
+    same("P12", &d5("0400050003012"), "FF0400000000\n")
+}
+
+fn run_only_cases() -> Passed {
+    let chain = |nodes: usize| {
+        let mut file = format!("01{nodes:04X}0000\n");
+        for node in 0..nodes {
+            file += &format!("03{node:04X}{ZERO}\n");
+        }
+        file + "0400000001010\n"
+    };
+    same("2,048 nodes", &program(&chain(2_048)), "800001000100000000\n")?;
+    same("2,049 nodes", &program(&chain(2_049)), "FF0100000000\n")?;
+    let entries = |count: usize| format!("{D5}0400000003{count:02X}{}\n", "0".repeat(count));
+    same("64 entries", &program(&entries(64))[..2], "81")?;
+    same("65 entries", &program(&entries(65)), "FF0500000000\n")?;
+    same("255 entries", &program(&entries(255)), "FF0500000000\n")?;
+    same("digit a", &program(&D5.replace("020000000400000002", "02000000040000000a")), "FF0A00000005\n")
+}
+
+// ---------------------------------------------------------------- frames and files
+
+fn sound_frames() -> Passed {
+    let long = format!("0400000000FF{}", "F".repeat(255));
+    let sound = ["0100000000", "01FFFFFFFF", "02FFFFFFFFFFFFFFFF", "050000000000000000", &long, "040000000000"];
+    let unsound = [
+        "",
+        "0",
+        "01",
+        "010000000",
+        "01000000000",
+        "020000000000000000F",
+        "0a00000000",
+        "8000000000000000 ",
+        "800001000100000000",
+        "820000",
+        "FF0900000000",
+        "0600000000010",
+        "04000000000",
+        "0400000000010F",
+        "040000000002F",
+        "01000000\r0",
+        "01000000\u{0}0",
+        "03000000000000000000000",
+        "030000000000000000000",
+        "00",
+        "070000",
+    ];
+    for line in sound {
+        frames::read_frame(line.as_bytes()).ok_or(format!("{line} should be sound"))?;
+    }
+    for line in unsound {
+        if frames::read_frame(line.as_bytes()).is_some() {
+            return Err(format!("{line:?} should not be sound"));
+        }
+    }
+    for byte in 0..=255u8 {
+        let digit = frames::read_frame(&[b"04000000000".as_slice(), b"1", &[byte]].concat()).is_some();
+        if digit != b"0123456789ABCDEF".contains(&byte) {
+            return Err(format!("byte {byte} as a digit"));
+        }
+    }
+    Ok(())
+}
+
+fn order_of_lines() -> Passed {
+    let query = "0400000003010\n";
+    let d5 = format!("{D5}{query}");
+    let route = "810000000300040005000400000001\n820000000100020003\n";
+    same("whole", &program(&d5), route)?;
+    let files = [
+        ("empty input", String::new(), "FF0B00000001\n".to_string()),
+        ("empty line", "\n".into(), "FF0A00000001\n".into()),
+        ("no 01", query.into(), "FF0B00000001\n".into()),
+        ("only 01", "0100050005\n".into(), "FF0B00000002\n".into()),
+        ("no query", D5.into(), "FF0B0000000C\n".into()),
+        ("line feed missing", d5.trim_end().into(), "FF0A0000000C\n".into()),
+        ("bad nodes and arcs", "010000FFFF\n".into(), "FF0100000000\n".into()),
+        ("bad arcs", "0108002001\n".into(), "FF0200000000\n".into()),
+        ("bad nodes after the line feed only", "0100000000".into(), "FF0A00000001\n".into()),
+        ("second 01", format!("0100010000\n0100000000\n{D5}"), "FF0B00000002\n".into()),
+        ("05 with one owed", "0100020001\n050000000100000001\n".into(), "FF0B00000002\n".into()),
+        ("03 too early", "0100020001\n0300000000000000000000\n".into(), "FF0B00000002\n".into()),
+        ("03 of another node", "0100020000\n0300010000000000000000\n".into(), "FF0B00000002\n".into()),
+        ("03 too many", "0100010000\n0300000000000000000000\n0300010000000000000000\n".into(), "FF0B00000003\n".into()),
+        ("arc too many", D5.replace("\n030000", "\n020000000000000000\n030000"), "FF0B00000007\n".into()),
+        ("query too early", D5.replace("0300040000000000000000", "0400000003010"), "FF0B0000000B\n".into()),
+        ("after an answer, unsound", format!("{d5}x\n"), format!("{route}FF0A0000000D\n")),
+        ("after an answer, misplaced", format!("{d5}0100010000\n"), format!("{route}FF0B0000000D\n")),
+        ("after an answer, cut", format!("{d5}04"), format!("{route}FF0A0000000D\n")),
+        ("two queries, one refused", format!("{D5}0400050003010\n{query}"), format!("FF0400000000\n{route}")),
+        ("268 digits, no line feed", format!("{d5}{}", "0".repeat(268)), format!("{route}FF0A0000000D\n")),
+        ("nothing after a file refusal", format!("x\n{d5}"), "FF0A00000001\n".into()),
+    ];
+    for (name, file, expected) in files {
+        same(name, &program(&file), &expected)?;
+    }
+    Ok(())
+}
+
+fn last_line() -> Passed {
+    let file = format!("{D5}0400000003010\n0400030003010\n");
+    let upto = |file: &str, line: u32| {
+        let output = answer_file_up_to(file.as_bytes(), Reader::Program, None, line).output;
+        String::from_utf8_lossy(&output).into_owned()
+    };
+    same("sound", upto(&file, 13).lines().last().unwrap_or(""), "FF0B0000000D")?;
+    same("unsound", upto(&file.replace("0400030003010", "x"), 13).lines().last().unwrap_or(""), "FF0B0000000D")?;
+    same("cut", upto(file.trim_end(), 13).lines().last().unwrap_or(""), "FF0B0000000D")?;
+    same("not reached", upto(&file, 14).lines().last().unwrap_or(""), "820003")
+}
+
+fn one_query() -> Passed {
+    let one = format!("{D5}0400000003010\n");
+    let route = program(&one);
+    same("one query", &shown(&one), &route)?;
+    same("a second", &shown(&format!("{one}0400000003010\n")), &format!("{route}FF0B0000000D\n"))?;
+    same("a second, refused", &shown(&format!("{one}0400090003010\n")), &format!("{route}FF0B0000000D\n"))?;
+    same("a second, unsound", &shown(&format!("{one}0400000003011F\n")), &format!("{route}FF0A0000000D\n"))?;
+    let refused = format!("{D5}0400090003010\n");
+    same("a refused one", &shown(&refused), "FF0400000000\n")?;
+    same("after a refused one", &shown(&format!("{refused}0400000003010\n")), "FF0400000000\nFF0B0000000D\n")?;
+    same("none", &shown(D5), "FF0B0000000C\n")
+}
+
+/// A room filled rightly passes; each way of filling it wrongly does not.
+fn rooms_judged() -> Passed {
+    let lines = b"FF0400000000\n";
+    let old: Vec<u8> = (0..20).map(|at| display::old_byte(display::GUARD + at)).collect();
+    let mut filled = old.clone();
+    filled[..lines.len()].copy_from_slice(lines);
+    let mut spilt = filled.clone();
+    spilt[19] = b'0';
+    let mut half = old[..12].to_vec();
+    half[0] = b'F';
+    let tries = [
+        (13, filled.clone(), true),
+        (12, filled.clone(), false),
+        (13, old.clone(), false),
+        (13, spilt, false),
+        (0, filled[..12].to_vec(), false),
+        (0, old[..12].to_vec(), true),
+        (0, half, false),
+        (0, Vec::new(), true),
+        (1, Vec::new(), false),
+    ];
+    for (at, (count, room, right)) in tries.into_iter().enumerate() {
+        let size = room.len();
+        if display::judge(&Shown { count, room }, lines, size).is_ok() != right {
+            return Err(format!("room {at} is misjudged"));
+        }
+    }
+    Ok(())
+}
+
+// ---------------------------------------------------------------- the search
+
+fn largest_length() -> Passed {
+    let arcs = (1..MOST_NODES as u32).map(|head| Arc { tail: head - 1, head, weight: TOP_WEIGHT });
+    let network = Network { nodes: vec![Node { h: 0, k: 0 }; MOST_NODES], arcs: arcs.collect() };
+    let query = Query { start: 0, end: MOST_NODES as u32 - 1, pattern: vec![0, 1] };
+    match model::answer(&network, &query, None).answer {
+        Answer::Route { length: 2_047_000_000, path, .. } if path.len() == MOST_NODES => Ok(()),
+        _ => Err("not 2,047,000,000".into()),
+    }
+}
+
+fn made_files() -> Passed {
+    for seed in 0..300 {
+        let made = make::file(seed);
+        if made.bytes != make::file(seed).bytes {
+            return Err(format!("seed {seed} makes two files"));
+        }
+        for line in made.bytes.split(|&byte| byte == b'\n') {
+            let written = frames::read_frame(line).map(|frame| frames::frame_line(&frame));
+            if written.is_some_and(|written| written.trim_end().as_bytes() != line) {
+                return Err(format!("seed {seed}: a line is not written as it was read"));
+            }
+        }
+    }
+    Ok(())
+}
+
+fn demands() -> Passed {
+    for seed in 0..3_000 {
+        let answer = answer_file(&make::file(seed).bytes, Reader::Program, None);
+        check::own_tests(seed, &answer, None).map_err(|what| format!("seed {seed}: {what}"))?;
+    }
+    Ok(())
+}
+
+/// Each fault changes the answers to some file; and stopping at the first meeting
+/// breaks demand 2 by the tests of the demands alone.
+fn faults_noticed() -> Passed {
+    let mut broken = false;
+    let mut seen = [false; Fault::ALL.len()];
+    for seed in 1..1_500 {
+        let file = make::file(seed).bytes;
+        let sound = answer_file(&file, Reader::Program, None);
+        broken = broken || check::own_tests(seed, &sound, Some(Fault::FirstMeeting)).is_err();
+        for (fault, seen) in Fault::ALL.into_iter().zip(&mut seen) {
+            *seen = *seen || answer_file(&file, Reader::Program, Some(fault)).output != sound.output;
+        }
+    }
+    if !broken {
+        return Err("the demands' tests pass a search that stops at the first meeting".into());
+    }
+    match seen.iter().position(|seen| !seen) {
+        Some(at) => Err(format!("{} is not noticed", Fault::ALL[at].name())),
+        None => Ok(()),
+    }
+}
+
+#[cfg(test)]
+mod tests {
+    #[test]
+    fn selftest() {
+        assert!(super::run());
+    }
+}
