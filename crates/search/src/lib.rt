@@ -1,8 +1,8 @@
 // The route query over lists that the caller lends. It tests the query by document 01's table; a refusal comes before
 // anything is written. An accepted query is searched as `nba` defines it, turn for turn, on the first entries of the lists.
-pub mod run;
-pub mod tables;
-pub mod turn;
+mod run;
+mod tables;
+mod turn;
 
 use network::Answer;
 use network::Lent;
