@@ -1,4 +1,3 @@
-pub mod Ints
 pub mod TurnLaws
 pub mod RunLaws
 pub mod AnswerLaws

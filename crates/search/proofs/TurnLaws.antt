@@ -20,7 +20,7 @@ use Rattle.nba.specs.Scan.{scan}
 use Rattle.nba.specs.CodeLaws.{scan-next}
 use Rattle.search.specs.declared.turn.Best.{Best}
 use Rattle.search.specs.Turn.{considered, reach, Took, took, taken}
-use Rattle.search.proofs.Ints.{back32, back64}
+use Rattle.network.proofs.SignedLocals.{back32, back64}
 
 -- an entry that is there does not depend on what stands for a missing one
 pub entry-there : {A : Type 0} (l : List A) (v : ℕ) (a b : A) → v < length l → getD l v a ≡ getD l v b

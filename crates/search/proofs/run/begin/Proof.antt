@@ -5,7 +5,7 @@ use native.Mathlib.Omega.{arith}
 use lib.ListN.{set, replicate}
 use Rattle.network.specs.Potential.{potentialAt}
 use Rattle.nba.specs.State.{missing, noNode}
-use Rattle.search.proofs.Ints.{wide-fits, wide-is}
+use Rattle.network.proofs.SignedLocals.{wide-fits, wide-is}
 use Rattle.search.proofs.RunLaws.{begun}
 use borrow.Author.Needs.{needs}
 use Rattle.search.proofs.run.begin.Statement.{statement}

@@ -9,7 +9,7 @@ use mir.Syntax.{w64}
 use mir.Val.{toZ, ofZ}
 use Rattle.nba.specs.Search.{lower}
 use Rattle.search.specs.Turn.{considered}
-use Rattle.search.proofs.Ints.{back32, back64}
+use Rattle.network.proofs.SignedLocals.{back32, back64}
 use Rattle.search.proofs.turn.consider.Statement.{statement}
 use Rattle.search.proofs.turn.consider.Tie as tie
 

@@ -2,7 +2,7 @@
 -- Assumes nothing.
 use borrow.Author.Needs.{needs}
 use native.Mathlib.Omega.{arith}
-use Rattle.search.proofs.Ints.{wide-fits, wide-is, label-is, sum-fits, sum-is}
+use Rattle.network.proofs.SignedLocals.{wide-fits, wide-is, unsigned-is, sum-fits, sum-is}
 use Rattle.search.proofs.turn.key.Statement.{statement}
 use Rattle.search.proofs.turn.key.Tie as tie
 
@@ -13,10 +13,10 @@ cast-result-2 : tie.Need-cast-result-2
 cast-result-2 c = wide-fits (c .fits .potential)
 
 add-result : tie.Need-add-result
-add-result c = sum-fits (label-is (c .fits .label)) (wide-is (c .fits .potential)) (omega arith) (omega arith)
+add-result c = sum-fits (unsigned-is (c .fits .label)) (wide-is (c .fits .potential)) (omega arith) (omega arith)
 
 returns : tie.Need-returns
-returns c = sum-is (label-is (c .fits .label)) (wide-is (c .fits .potential)) (omega arith) (omega arith)
+returns c = sum-is (unsigned-is (c .fits .label)) (wide-is (c .fits .potential)) (omega arith) (omega arith)
 
 pub key-spec : {M : Type 1} → statement M
 key-spec = tie.close (tie.spec cast-result cast-result-2 add-result returns)

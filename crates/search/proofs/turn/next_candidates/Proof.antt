@@ -8,7 +8,7 @@ use lib.ListN.{length, getD}
 use borrow.Author.Needs.{needs}
 use Rattle.nba.specs.Search.{leastBelow}
 use Rattle.search.specs.Turn.{meant}
-use Rattle.search.proofs.Ints.{back32}
+use Rattle.network.proofs.SignedLocals.{back32}
 use Rattle.search.proofs.TurnLaws.{pass-next}
 use Rattle.search.proofs.turn.next_candidates.Statement.{statement}
 use Rattle.search.proofs.turn.next_candidates.Tie as tie

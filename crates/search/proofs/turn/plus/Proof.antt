@@ -1,6 +1,6 @@
 -- `plus` meets its contract: the sum is exact, since the floor has at most 40 bits. Assumes nothing.
 use native.Mathlib.Omega.{arith}
-use Rattle.search.proofs.Ints.{label-is, back64, sum-fits, sum-is}
+use Rattle.network.proofs.SignedLocals.{unsigned-is, back64, sum-fits, sum-is}
 use borrow.Author.Needs.{needs}
 use Rattle.search.proofs.turn.plus.Statement.{statement}
 use Rattle.search.proofs.turn.plus.Tie as tie
@@ -9,10 +9,10 @@ cast-result : tie.Need-cast-result
 cast-result c = search needs
 
 add-result : tie.Need-add-result
-add-result c = sum-fits (label-is (c .fits .label)) (back64 (c .args .floor) (omega arith)) (omega arith) (omega arith)
+add-result c = sum-fits (unsigned-is (c .fits .label)) (back64 (c .args .floor) (omega arith)) (omega arith) (omega arith)
 
 returns : tie.Need-returns
-returns c = sum-is (label-is (c .fits .label)) (back64 (c .args .floor) (omega arith)) (omega arith) (omega arith)
+returns c = sum-is (unsigned-is (c .fits .label)) (back64 (c .args .floor) (omega arith)) (omega arith) (omega arith)
 
 pub plus-spec : {M : Type 1} → statement M
 plus-spec = tie.close (tie.spec cast-result add-result returns)

@@ -1,6 +1,6 @@
 -- `reaches` meets its contract: the difference is exact, since the sum has at most 41 bits. Assumes nothing.
 use native.Mathlib.Omega.{arith}
-use Rattle.search.proofs.Ints.{label-is, back64, wide-fits, wide-is, diff-fits, diff-is}
+use Rattle.network.proofs.SignedLocals.{unsigned-is, back64, wide-fits, wide-is, diff-fits, diff-is}
 use borrow.Author.Needs.{needs}
 use Rattle.search.proofs.turn.reaches.Statement.{statement}
 use Rattle.search.proofs.turn.reaches.Tie as tie
@@ -16,7 +16,7 @@ sub-result c = diff-fits (back64 (c .args .sum) (omega arith)) (wide-is (c .fits
 
 returns : tie.Need-returns
 returns c =
-    rw (diff-is (back64 (c .args .sum) (omega arith)) (wide-is (c .fits .potential)) (omega arith) (omega arith), label-is (c .fits .best))
+    rw (diff-is (back64 (c .args .sum) (omega arith)) (wide-is (c .fits .potential)) (omega arith) (omega arith), unsigned-is (c .fits .best))
 
 pub reaches-spec : {M : Type 1} → statement M
 reaches-spec = tie.close (tie.spec cast-result cast-result-2 sub-result returns)

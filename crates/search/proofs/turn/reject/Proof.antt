@@ -12,7 +12,7 @@ use mir.Syntax.{w64}
 use mir.Val.{toZ, ofZ}
 use Rattle.network.specs.Shift.{mag-add}
 use Rattle.nba.specs.Search.{rejects}
-use Rattle.search.proofs.Ints.{back32, back64}
+use Rattle.network.proofs.SignedLocals.{back32, back64}
 use Rattle.search.proofs.turn.reject.Statement.{statement}
 use Rattle.search.proofs.turn.reject.Tie as tie
 

@@ -4,7 +4,7 @@ use mathlib.Core.Path.{_≡_, refl, sym, ap, _∙_}
 use native.Mathlib.Omega.{arith}
 use Rattle.nba.specs.Search.{floorAfter}
 use Rattle.search.specs.Turn.{meant}
-use Rattle.search.proofs.Ints.{back64}
+use Rattle.network.proofs.SignedLocals.{back64}
 use borrow.Author.Needs.{needs}
 use Rattle.search.proofs.turn.side_turn.Statement.{statement}
 use Rattle.search.proofs.turn.side_turn.Tie as tie
