@@ -9,12 +9,8 @@ ghost use Rattle.network.specs.Network.{start, network};
 ghost use Rattle.network.specs.Potential.{potentialAt};
 ghost use Rattle.nba.specs.Search.{arcsOf, floorAfter, labelled, leastBelow, lookAtEach, rejects};
 ghost use Rattle.search.specs.Turn.{Ahead, Openable, Passed, bestOf, considered, meant, reach, taken, took};
-
-// A label that is missing.
-const MISSING: u32 = 4294967295;
-
-// A node that has not left the undecided set.
-const UNDECIDED: u8 = 0;
+use crate::tables::MISSING;
+use crate::tables::UNDECIDED;
 
 // The node that a side takes next, with its key: the least label plus own potential.
 pub enum Candidate {
