@@ -1,10 +1,9 @@
 -- What is read off the tables at the end of a search is the answer that `nba` defines. Assumes nothing.
 use mathlib.Core.Path.{_≡_, refl, sym, ap, _∙_}
-use mathlib.Core.Bool.{true, false, cond}
-use mathlib.Core.List.{List, [], _++_}
+use mathlib.Core.List.{List, _++_}
 use Prim.Native.Nat.{ℕ, _≤_, _<_}
 use native.Mathlib.Omega.{arith}
-use lib.ListN.{length, getD, take, drop}
+use lib.ListN.{length, take, drop}
 use lib.Seq.{length-take-le}
 use borrow.Author.Tests.{lt-ltb, le-ltb}
 use Rattle.network.specs.declared.Answer.{Answer}
@@ -13,17 +12,15 @@ use Rattle.network.specs.declared.Figures.{Figures}
 use Rattle.network.specs.Given.{Enough, Sound}
 use Rattle.network.specs.Network.{start, end}
 use Rattle.network.specs.Query.{Query}
-use Rattle.nba.specs.State.{missing, State}
+use Rattle.nba.specs.State.{missing}
 use Rattle.nba.specs.Search.{endState}
 use Rattle.nba.specs.Result.{pathOf, figuresAt, answerAt, found}
-use Rattle.nba.specs.Tabled.{Tabled}
 use Rattle.nba.specs.CodeLaws.{end-state-tabled}
-use Rattle.nba.specs.Fits.{PathFits}
 use Rattle.nba.specs.Theorems.{path-fits}
 use Rattle.search.specs.declared.turn.Best.{Best}
-use Rattle.search.specs.Promise.{Lists, lists, lengths, shownPath, searched, Left, left}
+use Rattle.search.specs.Promise.{Lists, lists, lengths, shownPath, searched, left}
 use Rattle.search.specs.Run.{Filled, Long, Tables, tables, tablesOf}
-use Rattle.search.specs.Tables.{figuresIn, pathThrough, atFront, NodesBelow, PathRoom}
+use Rattle.search.specs.Tables.{figuresIn, pathThrough, atFront, PathRoom}
 use Rattle.search.specs.TablesLaws.{figuresAt-is, pathOf-is, nodes-by-entry}
 
 module _ {q : Query} (sound : Sound q) {sl sn el en states : List ℕ} {best : Best} (t : tables sl sn el en states best ≡ tablesOf (endState q)) where

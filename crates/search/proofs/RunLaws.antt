@@ -1,10 +1,9 @@
 -- A turn of one side, made on the side's own lists with its arcs turned its way, is the turn that `nba` defines. Proved once,
 -- over the side. Assumes nothing.
 use mathlib.Core.Path.{_≡_, refl, sym, ap, _∙_}
-use mathlib.Core.Bool.{Bool, true, false, cond, _&&_, _||_}
-use mathlib.Core.List.{List, [], _∷_, _++_}
+use mathlib.Core.Bool.{Bool, true, false, _||_}
+use mathlib.Core.List.{List, [], _∷_}
 use Prim.Native.Nat.{ℕ, zero, suc, _+_, _%_, _^_, _≤_, _<_}
-use lib.Dec.{eqb}
 use borrow.Author.Tests.{eq-eqb, ne-eqb}
 use lib.IntN.{ℤ, pos, _+ℤ_}
 use lib.Signed.{mag}
@@ -16,15 +15,15 @@ use Rattle.network.specs.Given.{Sound}
 use Rattle.network.specs.Network.{Side, start, end, other, Network, network, arcCount, isArc}
 use Rattle.network.specs.Potential.{potentialAt}
 use Rattle.network.specs.Query.{Query, potentials, source, sideOfTurn}
-use Rattle.nba.specs.State.{missing, noNode, Half, State, half, undecided, openedBy, state}
-use Rattle.nba.specs.Search.{Candidate as Chosen, none, node, isNone, leastBelow, candidate, rejects, rejected, arcsBelow, arcsOf, Reach, lookAt, lookAtEach, floorAfter, halfAfter, afterReach, reachOf, rejecting, opening, takes, turn, ended, turnUnlessEnded, afterTurns, beginning, beginningHalf, atOnce, endState}
+use Rattle.nba.specs.State.{missing, noNode, State, half, undecided, openedBy}
+use Rattle.nba.specs.Search.{Candidate as Chosen, none, node, isNone, leastBelow, candidate, rejected, arcsBelow, arcsOf, Reach, lookAt, lookAtEach, floorAfter, halfAfter, afterReach, reachOf, rejecting, opening, takes, turn, ended, turnUnlessEnded, afterTurns, beginning, beginningHalf, atOnce, endState}
 use Rattle.network.specs.Shift.{mag-add}
 use Rattle.network.specs.SoundLaws.{range-fine}
 use Rattle.nba.specs.StateLaws.{both-sides, half-own, half-theirs}
 use Rattle.nba.specs.LeastLaws.{LeastAt, Choice, no-node, least-node, choice-is}
 use Rattle.nba.specs.MeasureLaws.{shiftable}
 use Rattle.nba.specs.CodeLaws.{goes-on, stays-ended}
-use Rattle.nba.specs.RunLaws.{Ends, ends}
+use Rattle.nba.specs.RunLaws.{ends}
 use Rattle.search.specs.declared.turn.Candidate.the-variants.{Nothing, Node}
 use Rattle.search.specs.declared.turn.Progress.{Progress}
 use Rattle.search.specs.Turn.{meant, Took, took, taken, bestOf, Ahead, Openable, Passed}

@@ -1,25 +1,25 @@
 -- What the code's single steps do to the lists is what the definitions of a turn say. Assumes nothing.
-use mathlib.Core.Path.{_≡_, refl, sym, ap, _∙_}
+use mathlib.Core.Path.{_≡_, refl, sym, _∙_}
 use mathlib.Core.Bool.{Bool, true, false, cond, _&&_}
-use mathlib.Core.List.{List, [], _∷_, _++_}
+use mathlib.Core.List.{List, [], _∷_}
 use Prim.Native.Nat.{ℕ, zero, suc, _+_, _≤_, _<_, _^_}
 use native.Mathlib.Omega.{arith}
 use native.Mathlib.Numerals.{add-one}
-use lib.Dec.{eqb, ltb}
-use lib.IntN.{ℤ, pos}
+use lib.Dec.{eqb}
+use lib.IntN.{ℤ}
 use lib.Signed.{mag}
 use mir.Syntax.{w32, w64}
 use mir.Val.{toZ, ofZ}
 use lib.ListN.{length, getD, set}
 use borrow.Author.Tests.{eq-eqb, ne-eqb, lt-ltb, le-ltb}
-use Rattle.network.specs.Network.{start, Network, network, near, far, weight, isArc, arcCount}
+use Rattle.network.specs.Network.{start, Network, network, near, far, isArc}
 use Rattle.network.specs.Potential.{potentialAt}
 use Rattle.nba.specs.State.{missing}
 use Rattle.nba.specs.Search.{Candidate as Chosen, leastBelow, rejects, Reach, labelled, lookAt, lookAtEach, arcsOf}
 use Rattle.nba.specs.Scan.{scan}
 use Rattle.nba.specs.CodeLaws.{scan-next}
 use Rattle.search.specs.declared.turn.Best.{Best}
-use Rattle.search.specs.Turn.{considered, reach, Took, took, taken}
+use Rattle.search.specs.Turn.{considered, reach, took, taken}
 use Rattle.network.proofs.SignedLocals.{back32, back64}
 
 -- an entry that is there does not depend on what stands for a missing one

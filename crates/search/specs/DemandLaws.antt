@@ -2,14 +2,11 @@
 -- leaves is one thing only. Assumes nothing.
 use mathlib.Core.Path.{_≡_, refl, sym, ap, _∙_}
 use mathlib.Core.Bool.{Bool, true, false, cond}
-use mathlib.Core.List.{List, [], _∷_, _++_}
-use Prim.Native.Nat.{ℕ, _≤_, _<_}
+use mathlib.Core.List.{List, []}
+use Prim.Native.Nat.{ℕ, _<_}
 use native.Mathlib.Omega.{arith}
 use lib.ListN.{length, getD, take, List·getD-append}
 use lib.Seq.{take-at}
-use lib.IntN.{pos, _+ℤ_, _-ℤ_}
-use lib.Signed.{leZ}
-use borrow.Author.Tests.{lt-ltb}
 use Rattle.network.specs.declared.Answer.{Answer}
 use Rattle.network.specs.declared.Answer.the-variants.{Route, NoRoute, Refused}
 use Rattle.network.specs.declared.Cause.{Cause}
@@ -17,23 +14,21 @@ use Rattle.network.specs.declared.Figures.{Figures}
 use Rattle.network.specs.declared.Verdict.{Verdict}
 use Rattle.network.specs.declared.Verdict.the-variants.{Accepted, Refused as Refusal}
 use Rattle.network.specs.CaseSplit.{cases}
-use Rattle.network.specs.Given.{Given, Sound}
+use Rattle.network.specs.Given.{Sound}
 use Rattle.network.specs.GivenLaws.{given-exactly-when}
 use Rattle.network.specs.SoundLaws.{accepted-sound}
-use Rattle.network.specs.Network.{Side, start, end, other, Network}
+use Rattle.network.specs.Network.{Side, start, end, Network}
 use Rattle.network.specs.Walk.{Walk, here, step}
-use Rattle.network.specs.Potential.{potentialAt}
-use Rattle.network.specs.Query.{Query, potentials, source}
+use Rattle.network.specs.Query.{Query}
 use Rattle.network.specs.Refusal.{queryVerdict}
-use Rattle.nba.specs.State.{missing, present, State, half, labelOf, stateOf, openedBy}
+use Rattle.nba.specs.State.{missing, present, labelOf, stateOf}
 use Rattle.nba.specs.Search.{endState}
-use Rattle.nba.specs.Result.{pathOf, figuresAt, answerAt, found}
-use Rattle.nba.specs.Demands.{WalkOfLength, Joined, alone, next, Lightest, NoneTwice, Demand2 as Shortest, path}
-use Rattle.nba.specs.Tabled.{Tabled}
+use Rattle.nba.specs.Result.{figuresAt, answerAt, found}
+use Rattle.nba.specs.Demands.{Joined, alone, next, path}
 use Rattle.nba.specs.CodeLaws.{end-state-tabled}
 use Rattle.nba.specs.Theorems.{demand-2, demand-3-opened-end, demand-3-bound, figures-end, path-fits}
 use Rattle.search.specs.Tables.{atFront}
-use Rattle.search.specs.Promise.{Lists, lists, lengths, shownPath, searched, Left, left, leftBy, queried}
+use Rattle.search.specs.Promise.{Lists, lists, lengths, shownPath, searched, Left, left, queried}
 use Rattle.search.specs.Demands.{Demand1, Demand2, Demand3, HasFigures, of-route, of-none, labelsIn}
 
 -- what a query leaves is one thing only

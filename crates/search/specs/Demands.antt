@@ -1,7 +1,6 @@
 -- The buyer's three demands, of a query's answer and of the lists at exit: what stands in the query's own contract.
 -- Assumes nothing.
 use mathlib.Core.Path.{_≡_}
-use mathlib.Core.Logic.{_≢_}
 use mathlib.Core.Bool.{true}
 use mathlib.Core.List.{List}
 use Prim.Native.Nat.{ℕ, _≤_, _<_}

@@ -8,7 +8,7 @@ use lib.ListN.{length}
 use lib.Signed.{mag}
 use Rattle.network.specs.Network.{Side, start, end, other, Network, mostNodes}
 use Rattle.network.specs.Query.{Query, query, sideOfTurn}
-use Rattle.nba.specs.State.{Half, State, state}
+use Rattle.nba.specs.State.{State, state}
 use Rattle.nba.specs.Search.{node, candidate, turn, beginning, afterTurns}
 use Rattle.search.specs.declared.turn.Best.{Best}
 use Rattle.search.specs.declared.turn.Progress.{Progress}

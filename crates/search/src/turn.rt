@@ -1,12 +1,11 @@
 // One turn of the search, seen from the side whose turn it is. Every function here is handed the side's own lists first
 // and the other side's after them, with tails and heads exchanged for the end side, so that one text serves both sides.
 ghost use mathlib.Core.Path.{_≡_};
-ghost use Prim.Native.Nat.{ℕ, _+_, _<_, _≤_, _^_};
+ghost use Prim.Native.Nat.{_+_, _<_, _^_};
 ghost use lib.IntN.{pos, _+ℤ_, _-ℤ_};
-ghost use lib.ListN.{length, getD};
+ghost use lib.ListN.{length};
 ghost use lib.Signed.{leZ, ltZ, mag};
 ghost use Rattle.network.specs.Network.{start, network};
-ghost use Rattle.network.specs.Potential.{potentialAt};
 ghost use Rattle.nba.specs.Search.{arcsOf, floorAfter, labelled, leastBelow, lookAtEach, rejects};
 ghost use Rattle.search.specs.Turn.{Ahead, Openable, Passed, bestOf, considered, meant, reach, taken, took};
 use crate::tables::MISSING;

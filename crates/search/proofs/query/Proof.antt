@@ -1,5 +1,5 @@
 -- `query` meets its contract: the verdict picks what the query leaves, and the demands follow from that. Assumes nothing.
-use mathlib.Core.Path.{_≡_, refl, sym, ap, _∙_}
+use mathlib.Core.Path.{sym, _∙_}
 use Rattle.search.specs.DemandLaws.{refused-left, accepted-left, demand-1-kept, demand-2-kept, demand-3-kept}
 use borrow.Author.Needs.{needs}
 use Rattle.search.proofs.query.Statement.{statement}

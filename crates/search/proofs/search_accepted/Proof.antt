@@ -1,6 +1,6 @@
 -- `search_accepted` meets its contract: the first entries of each list, one a node, are lent to `searched`, and what stands
 -- beyond them stays. Assumes nothing.
-use mathlib.Core.Path.{_≡_, refl, sym, ap, _∙_}
+use mathlib.Core.Path.{sym}
 use lib.Seq.{length-take-le}
 use Rattle.network.specs.SoundLaws.{accepted-sound, accepted-enough}
 use Rattle.search.specs.Promise.{Lists, lists, lengths}

@@ -1,7 +1,6 @@
 -- `searched` meets its contract: `find` leaves the tables of the state at the end, and figures, path and answer are read off
 -- them. Assumes nothing.
-use mathlib.Core.Path.{_≡_, refl, sym, ap, _∙_}
-use Rattle.search.proofs.AnswerLaws.{filled-at-end, states-long, answers-none, answers-route, shows-none, shows-route, path-room}
+use Rattle.search.proofs.AnswerLaws.{filled-at-end, answers-none, answers-route, shows-none, shows-route, path-room}
 use borrow.Author.Needs.{needs}
 use Rattle.search.proofs.searched.Statement.{statement}
 use Rattle.search.proofs.searched.Tie as tie

@@ -1,7 +1,6 @@
 -- `begin` meets its contract: each table is filled as step 1 says, and the two floors are the sources' potentials.
 -- Assumes nothing.
-use mathlib.Core.Path.{_≡_, refl, sym, ap, _∙_}
-use native.Mathlib.Omega.{arith}
+use mathlib.Core.Path.{refl, ap, _∙_}
 use lib.ListN.{set, replicate}
 use Rattle.network.specs.Potential.{potentialAt}
 use Rattle.nba.specs.State.{missing, noNode}

@@ -1,6 +1,6 @@
 -- `find` meets its contract: what `begin` leaves is the state of step 1, which is the end if start is end; otherwise the turns
 -- lead to the last state. Assumes nothing.
-use mathlib.Core.Path.{_≡_, refl, sym, ap, _∙_}
+use mathlib.Core.Path.{refl}
 use Rattle.network.specs.Network.{start, end}
 use Rattle.search.proofs.RunLaws.{begun-underway, ended-at-once, ended-last, kept-long}
 use borrow.Author.Needs.{needs}

@@ -1,6 +1,5 @@
 -- `next_turn` meets its contract: in each branch the pattern names the side, and `side_turn` makes its turn on its own lists.
 -- Assumes nothing.
-use mathlib.Core.Path.{_≡_, refl, sym, ap, _∙_}
 use native.Mathlib.Nat.{mod-lt}
 use native.Mathlib.Omega.{arith}
 use Rattle.network.specs.Network.{start, end}

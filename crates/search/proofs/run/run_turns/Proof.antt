@@ -1,7 +1,7 @@
 -- `run_turns` meets its contract: before each turn the lists stand for the state after as many turns as were made; a search
 -- that goes on has made fewer turns than there are nodes. Assumes nothing.
 use Prim.Native.Nat.{_≤_, _-_}
-use mathlib.Core.Path.{_≡_, refl, sym, ap, _∙_}
+use mathlib.Core.Path.{refl}
 use native.Mathlib.Omega.{arith}
 use lib.ListN.{length}
 use borrow.Author.Needs.{needs}

@@ -1,5 +1,4 @@
 -- `floor_after` meets its contract: the two cases of the match are those of the definition. Assumes nothing.
-use mathlib.Core.Path.{_∙_, sym, ap}
 use borrow.Author.Needs.{needs}
 use Rattle.network.proofs.SignedLocals.{back64}
 use Rattle.search.proofs.turn.floor_after.Statement.{statement}

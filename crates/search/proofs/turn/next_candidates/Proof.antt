@@ -1,14 +1,12 @@
 -- `next_candidates` meets its contract: after v nodes each side's candidate is the least of the nodes below v.
 -- Assumes nothing.
 use Prim.Native.Nat.{_≤_, _-_}
-use mathlib.Core.Path.{_≡_, refl, _∙_}
+use mathlib.Core.Path.{_≡_, _∙_}
 use native.Mathlib.Omega.{arith}
-use lib.IntN.{pos}
-use lib.ListN.{length, getD}
+use lib.ListN.{length}
 use borrow.Author.Needs.{needs}
 use Rattle.nba.specs.Search.{leastBelow}
 use Rattle.search.specs.Turn.{meant}
-use Rattle.network.proofs.SignedLocals.{back32}
 use Rattle.search.proofs.TurnLaws.{pass-next}
 use Rattle.search.proofs.turn.next_candidates.Statement.{statement}
 use Rattle.search.proofs.turn.next_candidates.Tie as tie

@@ -1,7 +1,7 @@
 -- `open_node` meets its contract: after the arcs below a, labels, neighbours and best length are what looking at them
 -- leaves. Assumes nothing.
 use Prim.Native.Nat.{_≤_, _-_}
-use mathlib.Core.Path.{_≡_, refl, _∙_}
+use mathlib.Core.Path.{_≡_, _∙_}
 use native.Mathlib.Omega.{arith}
 use lib.ListN.{length, getD}
 use borrow.Author.Needs.{needs}

@@ -1,6 +1,6 @@
 -- `side_turn` meets its contract: it is `take_node`, the pass over the nodes and the new floor, one after the other.
 -- Assumes nothing.
-use mathlib.Core.Path.{_≡_, refl, sym, ap, _∙_}
+use mathlib.Core.Path.{sym, ap, _∙_}
 use native.Mathlib.Omega.{arith}
 use Rattle.nba.specs.Search.{floorAfter}
 use Rattle.search.specs.Turn.{meant}

@@ -1,8 +1,7 @@
 -- `take_node` meets its contract: the test of step 4 picks the case of the definition. Assumes nothing.
-use mathlib.Core.Path.{_≡_, refl, sym, _∙_}
-use mathlib.Core.Bool.{Bool}
+use mathlib.Core.Path.{_≡_, _∙_}
 use native.Mathlib.Omega.{arith}
-use lib.ListN.{length, getD, set, length-set}
+use lib.ListN.{length, getD, length-set}
 use Rattle.network.specs.Potential.{potentialAt}
 use Rattle.nba.specs.State.{missing}
 use Rattle.nba.specs.Search.{rejects}
