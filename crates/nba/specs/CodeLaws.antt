@@ -7,30 +7,17 @@ use mathlib.Core.List.{List, [], _∷_, _++_}
 use Prim.Native.Nat.{ℕ, zero, suc, _+_, _≤_}
 use native.Mathlib.Omega.{arith}
 use lib.Dec.{eqb, ltb}
-use lib.IntN.{ℤ}
 use lib.ListN.{length, getD, set, length-set, length-replicate}
 use Rattle.network.specs.Network.{Side, start, end, other, Network, arcCount, near, far, weight, isArc}
 use Rattle.network.specs.Query.{Query, sideOfTurn}
 use Rattle.network.specs.CaseSplit.{cases, by-eq}
-use Rattle.nba.specs.State.{missing, noNode, present, State, half, undecided, openedBy, rejectedBy}
-use Rattle.nba.specs.Search.{beginningHalf, beginning, Candidate, none, node, lower, keyOf, leastBelow, candidate, ended, rejected, arcsBelow, arcsOf, Reach, labelled, lookAt, lookAtEach, halfAfter, afterReach, reachOf, rejecting, opening, takes, turn, turnUnlessEnded, afterTurns, atOnce, endState}
+use Rattle.nba.specs.State.{missing, noNode, State, half, undecided, openedBy, rejectedBy}
+use Rattle.nba.specs.Search.{beginningHalf, beginning, Candidate, none, node, candidate, ended, rejected, arcsBelow, arcsOf, Reach, labelled, lookAt, lookAtEach, halfAfter, afterReach, reachOf, rejecting, opening, takes, turn, turnUnlessEnded, afterTurns, atOnce, endState}
 use Rattle.nba.specs.Scan.{scan}
 use Rattle.nba.specs.Tabled.{Tabled}
 use Rattle.nba.specs.StateLaws.{both-sides, half-own, half-theirs, states-of}
 
 -- ---- the choice, one node at a time
-pub least-of-none : (labels states : List ℕ) (p : List ℤ) → leastBelow labels states p 0 ≡ none
-unfolding leastBelow
-least-of-none labels states p = refl
-
-pub least-with-next : (labels states : List ℕ) (p : List ℤ) (v : ℕ)
-    → leastBelow labels states p (suc v)
-    ≡ cond (eqb (getD states v 0) undecided && present (getD labels v missing))
-    (lower v (keyOf labels p v) (leastBelow labels states p v))
-    (leastBelow labels states p v)
-unfolding leastBelow
-least-with-next labels states p v = refl
-
 -- ---- the scan of arcs, the newest arc outermost
 module _ (s : Side) (g : Network) (theirs states : List ℕ) (u : ℕ) where
   look-at-append : (a b : List ℕ) (r : Reach)

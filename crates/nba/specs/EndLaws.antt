@@ -1,6 +1,6 @@
 -- The end of a search: how an answer reads the state at the end, and what that state is worth, start equal to end included.
 -- Assumes nothing.
-use mathlib.Core.Path.{_≡_, refl, sym, ap, _∙_}
+use mathlib.Core.Path.{_≡_, refl, ap, _∙_}
 use mathlib.Core.Logic.{_≢_}
 use mathlib.Core.Bool.{true, false}
 use mathlib.Core.List.{_∷_}
@@ -22,7 +22,7 @@ use Rattle.nba.specs.Demands.{WalkOfLength, Joined, NoneTwice}
 use Rattle.nba.specs.CodeLaws.{at-once-tabled, stays-ended}
 use Rattle.nba.specs.BeginningLaws.{at-once-begun, begun-source}
 use Rattle.nba.specs.Trails.{Trail, at-source, HasTrail, trail-short}
-use Rattle.nba.specs.TrailLaws.{Follows, length-turned-before, length-trail}
+use Rattle.nba.specs.TrailLaws.{length-turned-before, length-trail}
 use Rattle.nba.specs.PathLaws.{path-joined, path-none-twice}
 use Rattle.nba.specs.ShortWalk.{walk-beside}
 use Rattle.nba.specs.Ways.{walk-inside}
@@ -86,10 +86,6 @@ meeting {q} {st} sound inv h =
     by : (s : Side) → labelOf start st (st .meeting) + labelOf end st (st .meeting) ≡ st .best → labelOf s st (st .meeting) < missing
     by start e = omega arith
     by end e = omega arith
-
--- each of its trails can be followed to the source
-pub meeting-follows : {q : Query} {st : State} → Meeting q st → (s : Side) → Follows q st s (st .meeting) (q .network .nodes)
-meeting-follows m s = let i = m .short s in record { arcs = m .arcs s; enough = omega arith; has = m .trail s }
 
 -- the path has the nodes of both trails and the meeting node
 pub path-length : {q : Query} {st : State} → (m : Meeting q st) → length (pathOf q st) ≡ m .arcs start + suc (m .arcs end)
@@ -158,13 +154,6 @@ module _ {q : Query} (sound : Sound q) where
       by-lt i (e .turns) (λ l. omega (arith, e .few))
       (λ l. absurd (true≢false (ap (ended q) (stays-ended q (e .turns) i (e .over) l) ∙ e .over) h))
 
-  -- whenever it has ended, this is the state at the end
-  pub end-state-is : q .start ≢ q .end → (i : ℕ) → ended q (afterTurns q i) ≡ true → endState q ≡ afterTurns q i
-  end-state-is d i h =
-      let e = ends sound in
-      by-lt i (e .turns) (λ l. absurd (true≢false h (e .going i l)))
-      (λ l. end-state-ends d ∙ sym (stays-ended q (e .turns) i (e .over) l))
-
   pub end-state-at-once : q .start ≡ q .end → endState q ≡ atOnce q
   unfolding endState
   end-state-at-once e =
@@ -205,10 +194,3 @@ path-once {q} {st} m =
     let i = m .short start in
     let j = m .short end in
     path-none-twice {q = q} {st = st} (m .trail start) (m .trail end) (omega arith) (omega arith)
-
--- the meeting node before every turn, and at the end, where the best length is present
-pub meeting-before-turn : {q : Query} → Sound q → q .start ≢ q .end → (i : ℕ) → afterTurns q i .best < missing → Meeting q (afterTurns q i)
-meeting-before-turn sound d i h = meeting sound (invariant sound d i) h
-
-pub meeting-at-end : {q : Query} → Sound q → endState q .best < missing → Meeting q (endState q)
-meeting-at-end sound h = at-end sound .meeting h

@@ -5,7 +5,6 @@ pub mod Potential
 pub mod Query
 pub mod Refusal
 pub mod Given
-pub mod Cases
 pub mod CaseSplit
 pub mod WalkLaws
 pub mod Shift
@@ -15,4 +14,3 @@ pub mod RefusalLaws
 pub mod GivenLaws
 pub mod SoundLaws
 pub mod OneVerdict
-pub mod CaseVerdicts

@@ -10,7 +10,7 @@ use lib.Signed.{mag}
 use lib.ListN.{length, getD, set, replicate, length-replicate}
 use native.Mathlib.Numerals.{add-one}
 use native.Mathlib.Omega.{arith}
-use Rattle.network.specs.CaseSplit.{cases, twice, by-lt, true≢false}
+use Rattle.network.specs.CaseSplit.{cases, twice}
 use Rattle.network.specs.Given.{Sound}
 use Rattle.network.specs.Network.{Side, start, end, other, Network, network, arcCount, isArc}
 use Rattle.network.specs.Potential.{potentialAt}
@@ -23,7 +23,7 @@ use Rattle.nba.specs.StateLaws.{both-sides, half-own, half-theirs}
 use Rattle.nba.specs.LeastLaws.{LeastAt, Choice, no-node, least-node, choice-is}
 use Rattle.nba.specs.MeasureLaws.{shiftable}
 use Rattle.nba.specs.CodeLaws.{goes-on, stays-ended}
-use Rattle.nba.specs.RunLaws.{ends}
+use Rattle.nba.specs.EndLaws.{going-few}
 use Rattle.search.specs.declared.turn.Candidate.the-variants.{Nothing, Node}
 use Rattle.search.specs.declared.turn.Progress.{Progress}
 use Rattle.search.specs.Turn.{meant, Took, took, taken, bestOf, Ahead, Openable, Passed}
@@ -276,10 +276,7 @@ module _ {q : Query} (sound : Sound q) {i : ℕ} {st : State} {p : Progress} (wa
 
     -- so there are turns left
     pub turns-left : i < q .network .nodes
-    turns-left =
-        let e = ends sound in
-        by-lt i (q .network .nodes) (λ h. h)
-        (λ h. absurd (true≢false (ap (ended q) (stays-ended q (e .turns) i (e .over) (omega (arith, e .few))) ∙ e .over) going))
+    turns-left = going-few sound i going
 
     -- and the state after the next one is the next
     pub underway-next : {after : State} {r : Progress} → after ≡ turnOf q i st → Foreseen q after r → Underway q (i + 1) after r
