@@ -28,6 +28,7 @@ pub mod ShortWalk
 pub mod EndLaws
 pub mod Fits
 pub mod Theorems
+pub mod Accepted
 pub mod Cases
 pub mod Literal
 pub mod LiteralLaws

@@ -31,12 +31,18 @@ use Rattle.search.specs.Tables.{atFront}
 use Rattle.search.specs.Promise.{Lists, lists, lengths, shownPath, searched, Left, left, queried}
 use Rattle.search.specs.Demands.{Demand1, Demand2, Demand3, HasFigures, of-route, of-none, labelsIn}
 
+same-left : {r r′ : Answer} {l l′ : Lists} → left r l ≡ left r′ l′ → (r ≡ r′) × (l ≡ l′)
+same-left e = (ap (λ (x : Left). x .answer) e, ap (λ (x : Left). x .lists) e)
+
 -- what a query leaves is one thing only
 pub query-single : (q : Query) (before : Lists) (r r′ : Answer) (after after′ : Lists)
     → left r after ≡ queried q before → left r′ after′ ≡ queried q before → (r ≡ r′) × (after ≡ after′)
-query-single q before r r′ after after′ e f =
-    let same : left r after ≡ left r′ after′ = e ∙ sym f in
-    (ap (λ (x : Left). x .answer) same, ap (λ (x : Left). x .lists) same)
+query-single q before r r′ after after′ e f = same-left (e ∙ sym f)
+
+-- and so is what a search of an accepted query leaves
+pub search-accepted-single : (q : Query) (before : Lists) (r r′ : Answer) (after after′ : Lists)
+    → left r after ≡ left (found q) (searched q before) → left r′ after′ ≡ left (found q) (searched q before) → (r ≡ r′) × (after ≡ after′)
+search-accepted-single q before r r′ after after′ e f = same-left (e ∙ sym f)
 
 -- ---- the two cases of a verdict
 pub refused-left : (q : Query) (l : Lists) {c : Cause} → queryVerdict q (lengths l) ≡ Refusal c → queried q l ≡ left (Refused c) l
