@@ -1,0 +1,87 @@
+// Lines of district frames: the input lines of document 01 in words, and the answer lines of a query.
+use crate::show;
+use frames::Frame;
+use network::Answer;
+
+// The bytes of the longest answer in district D5: a route's line, and a path's with all five nodes.
+const ROOM: usize = 31 + 3 + 4 * 5;
+
+// The answer lines of a query, as `routeline` prints them.
+pub fn answer(a: Answer, path: &[u16]) {
+    let mut room = [0u8; ROOM];
+    let n = frames::write_answer(&mut room, a, path);
+    show::text(&room[..n]);
+}
+
+// The entries of a query line's pattern.
+fn pattern(line: &[u8]) {
+    let mut entries = [0u8; 255];
+    let n = frames::pattern(line, &mut entries);
+    show::states(b", pattern", &entries[..n], n);
+}
+
+fn arc(words: &[u8], tail: u16, head: u16, weight: u32) {
+    show::say(words, tail as u64);
+    show::say(b" to ", head as u64);
+    show::say(b", weight ", weight as u64);
+    show::text(b"\n");
+}
+
+// The frame that a line spells, in words.
+fn line(bytes: &[u8]) {
+    match frames::decode(bytes) {
+        Frame::Size { nodes, arcs } => {
+            show::say(b"01 size: ", nodes as u64);
+            show::say(b" nodes, ", arcs as u64);
+            show::text(b" arcs\n");
+        }
+        Frame::Arc { tail, head, weight } => arc(b"02 arc: ", tail, head, weight),
+        Frame::TwoWay { tail, head, weight } => arc(b"05 two-way link: ", tail, head, weight),
+        Frame::Potentials { node, h, k } => {
+            show::say(b"03 potentials: node ", node as u64);
+            show::say_signed(b", h ", h);
+            show::say_signed(b", k ", k);
+            show::text(b"\n");
+        }
+        Frame::Query {
+            start,
+            end,
+            entries: _,
+        } => {
+            show::say(b"04 query: ", start as u64);
+            show::say(b" to ", end as u64);
+            pattern(bytes);
+        }
+        Frame::Unsound => show::text(b"no sound frame\n"),
+    }
+}
+
+// District D5, the input of document 01.
+fn district() {
+    line(b"0100050005");
+    line(b"020000000100000001");
+    line(b"020001000200000001");
+    line(b"020002000300000001");
+    line(b"020000000400000002");
+    line(b"020004000300000002");
+    line(b"0300000000000000000000");
+    line(b"0300010000000000000000");
+    line(b"0300020000000000000000");
+    line(b"0300030000000000000000");
+    line(b"0300040000000000000000");
+    line(b"04000000030201");
+}
+
+// The kind that D5 has not, a closed link in both directions; the least potential and the greatest; the digit `a`; and an
+// answer's kind, which is no input.
+fn others() {
+    line(b"0500000001000F4240");
+    line(b"03000085FD42407A02BDC0");
+    line(b"010005000a");
+    line(b"FF0900000000");
+}
+
+pub fn all() {
+    district();
+    others();
+}

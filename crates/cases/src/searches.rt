@@ -1,0 +1,203 @@
+// Searches: P1 to P12 of document 01, each with its answer, its path, the tables that it leaves and its answer lines; and
+// the largest shortest length. The lent lists are longer than the node count, and hold what is no label, node or state of
+// these cases, so that an entry that was written where it may not be is seen.
+use crate::lines;
+use crate::show;
+use network::Answer;
+use network::MOST_NODES;
+use network::MOST_WEIGHT;
+ghost use Prim.Native.Nat.{_≤_};
+
+// What the lent lists hold before a search.
+const OLD_LABEL: u32 = 77;
+
+const OLD_NODE: u16 = 77;
+
+const OLD_STATE: u8 = 77;
+
+// The entries of each lent list: three more than district D5 has nodes.
+const LENT: usize = 5 + 3;
+
+// The chain's last node, and how many nodes and arcs it has.
+const LAST: u16 = MOST_NODES - 1;
+
+const NODES: usize = MOST_NODES as usize;
+
+const ARCS: usize = LAST as usize;
+
+// How many first entries of the work lists and of the path list an answer speaks of.
+struct Counts {
+    tables: usize,
+    path: usize,
+}
+
+fn written(a: Answer, count: u16) -> Counts {
+    match a {
+        Answer::Route {
+            length: _,
+            nodes,
+            figures: _,
+        } => Counts {
+            tables: count as usize,
+            path: nodes as usize,
+        },
+        Answer::NoRoute(_) => Counts {
+            tables: count as usize,
+            path: 0,
+        },
+        Answer::Refused(_) => Counts { tables: 0, path: 0 },
+    }
+}
+
+// One case: what it answers and what it leaves.
+fn case(
+    name: &[u8],
+    count: u16,
+    tails: &[u16],
+    heads: &[u16],
+    weights: &[u32],
+    forward: &[i32],
+    backward: &[i32],
+    start: u16,
+    end: u16,
+    pattern: &[u8],
+) {
+    let mut start_labels = [OLD_LABEL; LENT];
+    let mut start_neighbours = [OLD_NODE; LENT];
+    let mut end_labels = [OLD_LABEL; LENT];
+    let mut end_neighbours = [OLD_NODE; LENT];
+    let mut states = [OLD_STATE; LENT];
+    let mut path = [OLD_NODE; LENT];
+    let a = search::query(
+        count,
+        tails,
+        heads,
+        weights,
+        forward,
+        backward,
+        start,
+        end,
+        pattern,
+        &mut start_labels,
+        &mut start_neighbours,
+        &mut end_labels,
+        &mut end_neighbours,
+        &mut states,
+        &mut path,
+    );
+    let w = written(a, count);
+    show::answer(name, a);
+    show::nodes(b"  path:", &path, w.path);
+    show::labels(b"  start labels:", &start_labels, w.tables);
+    show::nodes(b"  start neighbours:", &start_neighbours, w.tables);
+    show::labels(b"  end labels:", &end_labels, w.tables);
+    show::nodes(b"  end neighbours:", &end_neighbours, w.tables);
+    show::states(b"  states:", &states, w.tables);
+    lines::answer(a, &path);
+}
+
+// A query in district D5.
+fn in_d5(name: &[u8], start: u16, end: u16, pattern: &[u8]) {
+    case(
+        name,
+        5,
+        &[0, 1, 2, 0, 4],
+        &[1, 2, 3, 4, 3],
+        &[1, 1, 1, 2, 2],
+        &[0; 5],
+        &[0; 5],
+        start,
+        end,
+        pattern,
+    );
+}
+
+// P5 to P10: two nodes, one arc from 0 to 1, a query from 0 to 1 and pattern 0.
+fn on_one_arc(name: &[u8], weight: u32, forward: [i32; 2], backward: [i32; 2]) {
+    case(
+        name,
+        2,
+        &[0],
+        &[1],
+        &[weight],
+        &forward,
+        &backward,
+        0,
+        1,
+        &[0],
+    );
+}
+
+// P1 to P12.
+pub fn p_cases() {
+    in_d5(b"P1", 0, 3, &[0, 1]);
+    in_d5(b"P2", 0, 3, &[1]);
+    in_d5(b"P3", 2, 2, &[0, 1]);
+    in_d5(b"P4", 3, 0, &[0, 1]);
+    on_one_arc(b"P5", 1, [1, 0], [0, 0]);
+    on_one_arc(b"P6", 1, [2, 0], [0, 0]);
+    on_one_arc(b"P7", 1000000, [0, 0], [0, 0]);
+    on_one_arc(b"P8", 1000001, [0, 0], [0, 0]);
+    on_one_arc(b"P9", 1, [-2047000000; 2], [-2047000000; 2]);
+    on_one_arc(b"P10", 1, [-2047000001, 0], [-2047000001, 0]);
+    case(b"P11", 1, &[], &[], &[], &[0], &[0], 0, 0, &[0]);
+    in_d5(b"P12", 5, 3, &[2]);
+}
+
+// Nodes in rising order from the first, 0 or 1.
+fn rising(first: u16) -> [u16; ARCS]
+    requires { ⌜ first ≤ 1 ⌝ }
+{
+    let mut list = [0u16; ARCS];
+    let mut i: u16 = 0;
+    while i < LAST {
+        list[i as usize] = first + i;
+        i += 1;
+    }
+    list
+}
+
+// How many entries of a list are in rising order from 0 on.
+fn in_order(list: &[u16]) -> usize {
+    let mut i = 0;
+    while i < list.len() {
+        if list[i] as usize != i {
+            return i;
+        }
+        i += 1;
+    }
+    i
+}
+
+// A chain of as many nodes as there may be, from its first to its last, each arc of the top weight: the largest shortest
+// length. The work lists have just enough room, and the path list one entry more than the path has nodes.
+pub fn chain() {
+    let tails = rising(0);
+    let heads = rising(1);
+    let mut start_labels = [OLD_LABEL; NODES];
+    let mut start_neighbours = [OLD_NODE; NODES];
+    let mut end_labels = [OLD_LABEL; NODES];
+    let mut end_neighbours = [OLD_NODE; NODES];
+    let mut states = [OLD_STATE; NODES];
+    let mut path = [OLD_NODE; NODES + 1];
+    let a = search::query(
+        MOST_NODES,
+        &tails,
+        &heads,
+        &[MOST_WEIGHT; ARCS],
+        &[0; NODES],
+        &[0; NODES],
+        0,
+        LAST,
+        &[0, 1],
+        &mut start_labels,
+        &mut start_neighbours,
+        &mut end_labels,
+        &mut end_neighbours,
+        &mut states,
+        &mut path,
+    );
+    show::answer(b"chain of 2,048 nodes", a);
+    show::say(b"  path nodes in rising order: ", in_order(&path) as u64);
+    show::text(b"\n");
+}
