@@ -79,7 +79,7 @@ p-cases =
     ∷ asks (onOneArc 1000001 (zeros 2) (zeros 2)) (Refused (BadArc 0)) []
     -- P9 and P10
     ∷ asks (onOneArc 1 (replicate 2 (negℤ (pos 2047000000))) (replicate 2 (negℤ (pos 2047000000)))) (Route 1 2 (figures 2 1 0 1)) (0 ∷ 1 ∷ [])
-    ∷ asks (onOneArc 1 (negℤ (pos 2047000001) ∷ negℤ (pos 2047000000) ∷ []) (zeros 2)) (Refused (BadPotential 0)) []
+    ∷ asks (onOneArc 1 (negℤ (pos 2047000001) ∷ pos 0 ∷ []) (zeros 2)) (Refused (BadPotential 0)) []
     -- P11 and P12
     ∷ asks (query (network 1 [] [] []) (zeros 1) (zeros 1) 0 0 (0 ∷ [])) (Route 0 1 (figures 0 0 0 0)) (0 ∷ [])
     ∷ asks (query (network 2 (0 ∷ []) (1 ∷ []) (1 ∷ [])) (zeros 2) (zeros 2) 2 1 []) (Refused StartOrEnd) []
