@@ -1,0 +1,41 @@
+-- `answer::answer_query` meets its contract: the pattern fits its list, and its entries there are the line's. Assumes nothing.
+use mathlib.Core.Path.{refl, sym}
+use native.Mathlib.Omega.{arith}
+use lib.Seq.{length-take-le}
+use Rattle.district.specs.QueryLaws.{pattern-short, pattern-whole, laid-front}
+use borrow.Author.Needs.{needs}
+use Rattle.district.proofs.answer.answer_query.Statement.{statement}
+use Rattle.district.proofs.answer.answer_query.Tie as tie
+
+slice-aggregate-pattern : tie.Need-slice-aggregate-pattern
+slice-aggregate-pattern c = search needs
+
+pattern-requires : tie.Need-pattern-requires
+pattern-requires c κs = search needs
+
+array-share-prefix-entries : tie.Need-array-share-prefix-entries
+array-share-prefix-entries c = omega (arith, pattern-whole (c .before .before .before .before .before .before .before .before .args .line .now) _ _ _ refl (c .before .pattern .ensures) .count-is, pattern-short (c .before .before .before .before .before .before .before .before .args .line .now))
+
+slice-aggregate-write-lines : tie.Need-slice-aggregate-write-lines
+slice-aggregate-write-lines c = sym (length-take-le _ _ (omega (arith, pattern-whole (c .before .before .before .before .before .before .before .before .before .args .line .now) _ _ _ refl (c .before .before .pattern .ensures) .count-is, pattern-short (c .before .before .before .before .before .before .before .before .before .args .line .now))))
+
+write-lines-requires : tie.Need-write-lines-requires
+write-lines-requires c κs = search needs
+
+same-length : tie.Need-same-length
+same-length c = search needs
+
+returns : tie.Need-returns
+returns c = rw (← laid-front _ _ _ _ (pattern-whole (c .before .before .before .before .before .before .before .before .before .before .before .before .before .args .line .now) _ _ _ refl (c .before .before .before .before .before .before .pattern .ensures))) (c .before .before .write-lines .ensures)
+
+pub answer-query-spec : {M : Type 1} → statement M
+answer-query-spec =
+    tie.close
+    (tie.spec
+    slice-aggregate-pattern
+    pattern-requires
+    array-share-prefix-entries
+    slice-aggregate-write-lines
+    write-lines-requires
+    same-length
+    returns)

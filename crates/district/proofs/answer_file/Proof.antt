@@ -1,0 +1,66 @@
+-- `answer_file` meets its contract: the gathered text is the answer, and it is placed where it fits. Assumes nothing.
+use mathlib.Core.Path.{sym}
+use native.Mathlib.Omega.{arith}
+use lib.Seq.{length-take-le}
+use Rattle.district.specs.QueryLaws.{laid-front, placed-as}
+use Rattle.district.specs.GatherLaws.{display-bytes}
+use borrow.Author.Needs.{needs}
+use Rattle.district.proofs.answer_file.Statement.{statement}
+use Rattle.district.proofs.answer_file.Tie as tie
+
+slice-aggregate-gather : tie.Need-slice-aggregate-gather
+slice-aggregate-gather c = search needs
+
+slice-aggregate-gather-2 : tie.Need-slice-aggregate-gather-2
+slice-aggregate-gather-2 c = search needs
+
+slice-aggregate-gather-3 : tie.Need-slice-aggregate-gather-3
+slice-aggregate-gather-3 c = search needs
+
+slice-aggregate-gather-4 : tie.Need-slice-aggregate-gather-4
+slice-aggregate-gather-4 c = search needs
+
+slice-aggregate-gather-5 : tie.Need-slice-aggregate-gather-5
+slice-aggregate-gather-5 c = search needs
+
+slice-aggregate-gather-6 : tie.Need-slice-aggregate-gather-6
+slice-aggregate-gather-6 c = search needs
+
+slice-aggregate-gather-7 : tie.Need-slice-aggregate-gather-7
+slice-aggregate-gather-7 c = search needs
+
+gather-requires : tie.Need-gather-requires
+gather-requires c κs = search needs
+
+array-share-prefix-text : tie.Need-array-share-prefix-text
+array-share-prefix-text c = omega (arith, c .before .before .before .before .before .before .before .gather .ensures .count-is, display-bytes (c .before .before .before .before .before .before .before .before .before .before .before .before .before .before .before .before .before .args .file .now), c .before .before .before .before .before .before .before .gather .kept .1 .1 .1 .1 .1 .1 .1 .0)
+
+slice-aggregate-place : tie.Need-slice-aggregate-place
+slice-aggregate-place c = sym (length-take-le _ _ (omega (arith, c .before .before .before .before .before .before .before .before .gather .ensures .count-is, display-bytes (c .before .before .before .before .before .before .before .before .before .before .before .before .before .before .before .before .before .before .args .file .now), c .before .before .before .before .before .before .before .before .gather .kept .1 .1 .1 .1 .1 .1 .1 .0)))
+
+place-requires : tie.Need-place-requires
+place-requires c κs = search needs
+
+same-length : tie.Need-same-length
+same-length c = search needs
+
+returns : tie.Need-returns
+returns c = placed-as (laid-front _ _ _ _ (c .before .before .before .before .before .before .before .before .before .before .before .before .gather .ensures)) (c .before .before .place .ensures)
+
+pub answer-file-spec : {M : Type 1} → statement M
+answer-file-spec =
+    tie.close
+    (tie.spec
+    slice-aggregate-gather
+    slice-aggregate-gather-2
+    slice-aggregate-gather-3
+    slice-aggregate-gather-4
+    slice-aggregate-gather-5
+    slice-aggregate-gather-6
+    slice-aggregate-gather-7
+    gather-requires
+    array-share-prefix-text
+    slice-aggregate-place
+    place-requires
+    same-length
+    returns)

@@ -1,0 +1,65 @@
+-- `frame::take_line` meets its contract: the line's number is tested first, then its frame is taken. Assumes nothing.
+use mathlib.Core.Path.{sym}
+use native.Mathlib.Omega.{arith}
+use lib.Seq.{length-take-le}
+use Rattle.district.specs.ReaderLaws.{stepped-as, last-line, other-line}
+use borrow.Author.Needs.{needs}
+use Rattle.district.proofs.frame.take_line.Statement.{statement}
+use Rattle.district.proofs.frame.take_line.Tie as tie
+
+refuse-requires : tie.Need-refuse-requires
+refuse-requires c κs = search needs
+
+same-length : tie.Need-same-length
+same-length c = search needs
+
+returns : tie.Need-returns
+returns c = stepped-as (last-line _ _ (c .before .before .before .before .if1 .taken)) (c .before .before .refuse .ensures .law _ (c .before .before .before .before .before .before .before .before .before .before .before .pre))
+
+slice-aggregate-decode : tie.Need-slice-aggregate-decode
+slice-aggregate-decode c = sym (length-take-le _ _ (omega (arith, c .before .before .before .before .before .before .before .before .pre .counted, c .before .before .before .before .before .before .before .before .pre .roomy)))
+
+decode-requires : tie.Need-decode-requires
+decode-requires c κs = search needs
+
+take-frame-requires : tie.Need-take-frame-requires
+take-frame-requires c κs = search needs
+
+same-length-2 : tie.Need-same-length-2
+same-length-2 c = search needs
+
+same-length-3 : tie.Need-same-length-3
+same-length-3 c = search needs
+
+same-length-4 : tie.Need-same-length-4
+same-length-4 c = search needs
+
+same-length-5 : tie.Need-same-length-5
+same-length-5 c = search needs
+
+same-length-6 : tie.Need-same-length-6
+same-length-6 c = search needs
+
+same-length-7 : tie.Need-same-length-7
+same-length-7 c = search needs
+
+returns-2 : tie.Need-returns-2
+returns-2 c = stepped-as (other-line _ _ (c .before .before .before .before .before .before .before .before .before .before .before .before .before .before .before .before .before .before .before .if1 .left) (c .before .before .before .before .before .before .before .before .before .before .before .before .before .before .before .before .before .decode .ensures)) (c .before .before .before .before .before .before .before .before .before .before .take-frame .ensures)
+
+pub take-line-spec : {M : Type 1} → statement M
+take-line-spec =
+    tie.close
+    (tie.spec
+    refuse-requires
+    same-length
+    returns
+    slice-aggregate-decode
+    decode-requires
+    take-frame-requires
+    same-length-2
+    same-length-3
+    same-length-4
+    same-length-5
+    same-length-6
+    same-length-7
+    returns-2)

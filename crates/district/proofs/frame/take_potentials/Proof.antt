@@ -1,0 +1,103 @@
+-- `frame::take_potentials` meets its contract: a 03 of the next node puts its potentials after those counted. Assumes nothing.
+use mathlib.Core.Path.{_≡_, ap}
+use Prim.Native.Nat.{_<_, _^_}
+use lib.IntN.{ℤ}
+use lib.ListN.{set}
+use lib.Signed.{mag}
+use mir.Syntax.{w32}
+use mir.Val.{toZ, ofZ}
+use mir.Facts.{toZ-ofZ}
+use native.Mathlib.Omega.{arith}
+use Rattle.district.specs.Reader.{fileOf}
+use Rattle.district.specs.ReaderLaws.{over-as, over-potentials}
+use Rattle.district.specs.TakenLaws.{grown-one, potentials-taken, other-node}
+use Rattle.district.proofs.OtherFrames.{not-among, no-potentials}
+use borrow.Author.Needs.{needs}
+use Rattle.district.proofs.frame.take_potentials.Statement.{statement}
+use Rattle.district.proofs.frame.take_potentials.Tie as tie
+
+-- a signed local holds bits: what is read of them is the number
+back32 : (z : ℤ) → mag z < 2 ^ 31 → toZ w32 (ofZ w32 z) ≡ z
+back32 z h = toZ-ofZ (record { sfits = h })
+
+enum-known-frame : tie.Need-enum-known-frame
+enum-known-frame c = search needs
+
+refuse-frame-requires : tie.Need-refuse-frame-requires
+refuse-frame-requires c κs = search needs
+
+same-length : tie.Need-same-length
+same-length c = search needs
+
+returns : tie.Need-returns
+returns c = over-potentials _ _ (over-as (λ l h. no-potentials (fileOf _ l) (c .before .before .before .before .before .before .args .frame) (not-among 3 0 1 2 4 5 (λ p q. omega arith) (λ p q. omega arith) (λ p q. omega arith) (λ p q. omega arith) (λ p q. omega arith) (c .before .before .before .before .match .keys2))) (c .before .before .refuse-frame .ensures))
+
+cast-if1 : tie.Need-cast-if1
+cast-if1 c = search needs
+
+refuse-frame-requires-2 : tie.Need-refuse-frame-requires-2
+refuse-frame-requires-2 c κs = search needs
+
+same-length-2 : tie.Need-same-length-2
+same-length-2 c = search needs
+
+returns-2 : tie.Need-returns-2
+returns-2 c =
+    over-potentials _ _
+    (over-as (λ l h. rw (c .before .before .before .before .before .before .frame .given .1) (other-node _ l h _ _ _ (c .before .before .before .before .if1 .taken))) (c .before .before .refuse-frame2 .ensures))
+
+mul-h : tie.Need-mul-h
+mul-h c = search needs
+
+slice-set-from-h : tie.Need-slice-set-from-h
+slice-set-from-h c = search needs
+
+mul-k : tie.Need-mul-k
+mul-k c = search needs
+
+slice-set-from-k : tie.Need-slice-set-from-k
+slice-set-from-k c = search needs
+
+next-line-requires : tie.Need-next-line-requires
+next-line-requires c κs = search needs
+
+add-next : tie.Need-add-next
+add-next c = search needs
+
+same-length-3 : tie.Need-same-length-3
+same-length-3 c = search needs
+
+same-length-4 : tie.Need-same-length-4
+same-length-4 c = search needs
+
+returns-3 : tie.Need-returns-3
+returns-3 c =
+    let a = c .before .before .before .before .before .before .args in
+    let given = c .before .before .before .frame .given in
+    let fits = c .before .before .known-told .given in
+    rw (given .1)
+    (potentials-taken (a .reader) _ (given .0 .0) (given .0 .1 .0) (given .0 .1 .1 .0) _ (c .next-line .ensures) (c .before .if1 .left) (c .before .before .before .before .before .before .pre .owed)
+    (grown-one (a .forward .now) _ (given .0 .1 .0) (ap (set (a .forward .now) (a .reader .«nodes_read»)) (back32 _ (fits .1 .0 .1))) (omega (arith, c .before .before .before .before .before .before .pre)))
+    (grown-one (a .backward .now) _ (given .0 .1 .1 .0) (ap (set (a .backward .now) (a .reader .«nodes_read»)) (back32 _ (fits .1 .1 .0 .1))) (omega (arith, c .before .before .before .before .before .before .pre))))
+
+pub take-potentials-spec : {M : Type 1} → statement M
+take-potentials-spec =
+    tie.close
+    (tie.spec
+    enum-known-frame
+    refuse-frame-requires
+    same-length
+    returns
+    cast-if1
+    refuse-frame-requires-2
+    same-length-2
+    returns-2
+    mul-h
+    slice-set-from-h
+    mul-k
+    slice-set-from-k
+    next-line-requires
+    add-next
+    same-length-3
+    same-length-4
+    returns-3)

@@ -1,0 +1,85 @@
+-- `take_byte` meets its contract: each of its ways is a case of the definition. Assumes nothing.
+use mathlib.Core.Path.{refl}
+use native.Mathlib.Omega.{arith}
+use borrow.Author.Tests.{not-true, not-false}
+use Rattle.district.specs.ReaderLaws.{stepped-as, stepped-nothing, ended-byte, line-feed-byte, held-byte, byte-too-many}
+use Rattle.district.specs.TakenLaws.{grown-one, byte-held}
+use borrow.Author.Needs.{needs}
+use Rattle.district.proofs.take_byte.Statement.{statement}
+use Rattle.district.proofs.take_byte.Tie as tie
+
+returns : tie.Need-returns
+returns c = stepped-as (ended-byte _ _ _ (not-true _ (c .if1 .taken))) (stepped-nothing _ _ _ (c .before .before .before .before .before .before .before .pre))
+
+take-line-requires : tie.Need-take-line-requires
+take-line-requires c κs = search needs
+
+same-length : tie.Need-same-length
+same-length c = search needs
+
+same-length-2 : tie.Need-same-length-2
+same-length-2 c = search needs
+
+same-length-3 : tie.Need-same-length-3
+same-length-3 c = search needs
+
+same-length-4 : tie.Need-same-length-4
+same-length-4 c = search needs
+
+same-length-5 : tie.Need-same-length-5
+same-length-5 c = search needs
+
+same-length-6 : tie.Need-same-length-6
+same-length-6 c = search needs
+
+same-length-7 : tie.Need-same-length-7
+same-length-7 c = search needs
+
+returns-2 : tie.Need-returns-2
+returns-2 c = stepped-as (line-feed-byte _ _ _ (not-false _ (c .before .before .before .before .before .before .before .before .before .before .before .before .before .before .before .before .before .before .before .if1 .left)) (c .before .before .before .before .before .before .before .before .before .before .before .before .before .before .before .before .before .before .if2 .taken)) (c .before .before .before .before .before .before .before .before .before .before .take-line .ensures)
+
+slice-write-line : tie.Need-slice-write-line
+slice-write-line c = search needs
+
+add-next : tie.Need-add-next
+add-next c = search needs
+
+same-length-8 : tie.Need-same-length-8
+same-length-8 c = search needs
+
+returns-3 : tie.Need-returns-3
+returns-3 c =
+    let a = c .before .before .before .before .before .before .before .before .before .args in
+    stepped-as (held-byte _ _ (a .byte) (c .before .before .before .before .before .before .before .before .before .pre) (not-false _ (c .before .before .if1 .left)) (c .before .if2 .left) (c .if3 .taken))
+    (byte-held (a .reader) (a .byte) (a .line .now) _ _ _ _ _ _ _ (c .before .before .before .before .before .before .before .before .before .pre) (c .if3 .taken) (grown-one (a .line .now) _ (a .byte) refl (omega (arith, c .before .before .before .before .before .before .before .before .before .pre .roomy))))
+
+refuse-broken-requires : tie.Need-refuse-broken-requires
+refuse-broken-requires c κs = search needs
+
+same-length-9 : tie.Need-same-length-9
+same-length-9 c = search needs
+
+returns-4 : tie.Need-returns-4
+returns-4 c = stepped-as (byte-too-many _ _ _ (c .before .before .before .before .before .before .before .before .before .before .before .before .before .pre) (not-false _ (c .before .before .before .before .before .before .if1 .left)) (c .before .before .before .before .before .if2 .left) (c .before .before .before .before .if3 .left)) (c .before .before .refuse-broken .ensures .law _ (c .before .before .before .before .before .before .before .before .before .before .before .before .before .pre))
+
+pub take-byte-spec : {M : Type 1} → statement M
+take-byte-spec =
+    tie.close
+    (tie.spec
+    returns
+    take-line-requires
+    same-length
+    same-length-2
+    same-length-3
+    same-length-4
+    same-length-5
+    same-length-6
+    same-length-7
+    returns-2
+    slice-write-line
+    add-next
+    same-length-8
+    returns-3
+    refuse-broken-requires
+    same-length-9
+    returns-4)

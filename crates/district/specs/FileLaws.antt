@@ -1,0 +1,182 @@
+-- Laws of a file's answer: bytes may come in any pieces; a step prints no more than the lines of one answer, and the display's
+-- file no more than those and a refusal's line. Assumes nothing.
+use mathlib.Core.Path.{_≡_, refl, ap, _∙_}
+use mathlib.Core.Bool.{Bool, true, false, cond, _&&_, _||_}
+use mathlib.Core.List.{List, [], _∷_, _++_, append-assoc}
+use Prim.Native.Nat.{ℕ, _+_, _-_, _≤_}
+use native.Mathlib.Omega.{arith}
+use lib.Dec.{eqb, ltb, leb}
+use lib.ListN.{length, take, length-append, length-take}
+use Rattle.network.specs.declared.Cause.{Cause}
+use Rattle.network.specs.declared.Cause.the-variants.{MisplacedLine}
+use Rattle.network.specs.Network.{mostNodes, mostArcs}
+use Rattle.network.specs.declared.Answer.{Answer}
+use Rattle.network.specs.declared.Answer.the-variants.{Route, NoRoute, Refused}
+use Rattle.network.specs.declared.Verdict.{Verdict}
+use Rattle.network.specs.declared.Verdict.the-variants.{Accepted, Refused as Refusal}
+use Rattle.network.specs.CaseSplit.{cases, by-bool}
+use Rattle.network.specs.Query.{Query}
+use Rattle.network.specs.Refusal.{queryVerdict}
+use Rattle.network.specs.Given.{Sound}
+use Rattle.network.specs.SoundLaws.{accepted-sound}
+use Rattle.nba.specs.Search.{endState}
+use Rattle.nba.specs.Result.{pathOf, found, answered, answerTo}
+use Rattle.nba.specs.Theorems.{path-fits}
+use Rattle.frames.specs.declared.Frame.{Frame}
+use Rattle.frames.specs.declared.Frame.the-variants.{Size, Arc, TwoWay, Potentials, Query as QueryFrame, Unsound}
+use Rattle.frames.specs.Frame.{mostDigits, frameOf}
+use Rattle.frames.specs.AnswerLines.{lineFeed, answerLines}
+use Rattle.frames.specs.AnswerLaws.{length-refused, length-no-route, length-route}
+use Rattle.district.specs.File.{Told, File, Step, step, beginning, lastLine, refused, taken, addedArcs, sizeOwed, arcsOwed, potentialsOwed, owing, takeSize, takeArcs, takePotentials, workRoom, queryLines, takeQuery, takeFrame, takeLine, brokenLine, takeByte, endOfInput, feed, answerFrom}
+use Rattle.district.specs.Reader.{mostBytes, refusalBytes}
+
+-- ---- pieces
+-- feeding two pieces is feeding the first and then the second
+abbrev pub after : Step → (File → Step) → Step
+after s f = step (f (s .file) .file) (s .printed ++ f (s .file) .printed)
+
+pub feed-append : (f : File) (a b : List ℕ) → feed f (a ++ b) ≡ after (feed f a) (λ g. feed g b)
+unfolding feed
+feed-append f [] b = refl
+feed-append f (x ∷ a) b = rw (feed-append (takeByte f x .file) a b, append-assoc)
+
+-- what a file prints from here on
+unfoldable pub restOf : File → List ℕ → List ℕ
+restOf f bytes = feed f bytes .printed ++ endOfInput (feed f bytes .file)
+
+pub rest-whole : (single : Bool) (line : ℕ) (bytes : List ℕ) → restOf (beginning single line) bytes ≡ answerFrom single line bytes
+unfolding restOf answerFrom
+rest-whole single line bytes = refl
+
+pub rest-none : (f : File) → restOf f [] ≡ endOfInput f
+unfolding restOf feed
+rest-none f = refl
+
+pub rest-byte : (f : File) (b : ℕ) (bytes : List ℕ) → restOf f (b ∷ bytes) ≡ takeByte f b .printed ++ restOf (takeByte f b .file) bytes
+unfolding restOf feed
+rest-byte f b bytes = append-assoc (takeByte f b .printed) _ _
+
+-- ---- how much is printed
+found-short : (q : Query) → Sound q → (a : Answer) → found q ≡ a → (p : List ℕ) → length (answerLines a p) ≤ mostBytes
+found-short q sound (Route l n f) e p =
+    let t : length (take n p) ≤ n = rw length-take (omega arith) in
+    omega (arith, length-route l n f p, path-fits sound e .few, sound .sized .few-nodes)
+found-short q sound (NoRoute f) e p = omega (arith, length-no-route f p)
+found-short q sound (Refused c) e p = omega (arith, length-refused c p)
+
+-- no query's answer has more bytes than a route over 2,048 nodes
+pub query-short : (q : Query) → length (queryLines q) ≤ mostBytes
+unfolding queryLines answerTo
+query-short q = go (queryVerdict q workRoom) refl
+  where
+    go : (v : Verdict) → queryVerdict q workRoom ≡ v → length (answerLines (answered v (found q)) (pathOf q (endState q))) ≤ mostBytes
+    go (Refusal c) e = omega (arith, length-refused c (pathOf q (endState q)))
+    go Accepted e = found-short q (accepted-sound q workRoom e) (found q) refl (pathOf q (endState q))
+
+-- the most that a file with one query still prints: the answer and a refusal, a refusal, or nothing
+unfoldable pub atMost : File → ℕ
+atMost f = cond (f .going) (cond (f .told .asked) refusalBytes (mostBytes + refusalBytes)) 0
+
+-- a step of a file with one query prints out of what is left to it
+pub record Spends (f : File) (s : Step) : Type 0 where
+  pub still-single : s .file .single ≡ true
+  pub out-of : length (s .printed) + atMost (s .file) ≤ atMost f
+
+module _ (f : File) (one : f .single ≡ true) (goes : f .going ≡ true) where
+  some-left : refusalBytes ≤ atMost f
+  unfolding atMost
+  some-left = rw goes (by-bool (f .told .asked) (λ e. rw e (omega arith)) (λ e. rw e (omega arith)))
+
+  refused-spends : (c : Cause) → Spends f (refused f c)
+  unfolding refused atMost
+  refused-spends c = record { still-single = one; out-of = omega (arith, length-refused c [], some-left) }
+
+  told-spends : (t : Told) → t .asked ≡ f .told .asked → Spends f (taken f t [])
+  unfolding taken atMost
+  told-spends t e = record { still-single = one; out-of = rw e (omega arith) }
+
+  query-spends : (t : Told) (q : Query) → t .asked ≡ true → f .told .asked ≡ false → Spends f (taken f t (queryLines q))
+  unfolding taken atMost
+  query-spends t q e none = record { still-single = one; out-of = rw (e, none, goes) (omega (arith, query-short q)) }
+
+  size-spends : (g : Frame) → Spends f (takeSize f g)
+  unfolding takeSize
+  size-spends (Size n m) =
+      cases (Spends f) (eqb n 0 || ltb mostNodes n) (λ _. refused-spends _)
+      (λ _. cases (Spends f) (ltb mostArcs m) (λ _. refused-spends _) (λ _. told-spends _ refl))
+  size-spends (Arc t h w) = refused-spends _
+  size-spends (TwoWay t h w) = refused-spends _
+  size-spends (Potentials v h k) = refused-spends _
+  size-spends (QueryFrame s e n) = refused-spends _
+  size-spends Unsound = refused-spends _
+
+  arcs-spend : (g : Frame) → Spends f (takeArcs f g)
+  unfolding takeArcs
+  arcs-spend g =
+      cases (Spends f) (ltb 0 (length (addedArcs g)) && leb (length (addedArcs g)) (f .told .arcs - length (f .told .tails)))
+      (λ _. told-spends _ refl) (λ _. refused-spends _)
+
+  potentials-spend : (g : Frame) → Spends f (takePotentials f g)
+  unfolding takePotentials
+  potentials-spend (Potentials v h k) = cases (Spends f) (eqb v (length (f .told .forward))) (λ _. told-spends _ refl) (λ _. refused-spends _)
+  potentials-spend (Size n m) = refused-spends _
+  potentials-spend (Arc t h w) = refused-spends _
+  potentials-spend (TwoWay t h w) = refused-spends _
+  potentials-spend (QueryFrame s e n) = refused-spends _
+  potentials-spend Unsound = refused-spends _
+
+  queries-spend : (g : Frame) → Spends f (takeQuery f g)
+  unfolding takeQuery
+  queries-spend (QueryFrame s e n) =
+      cases (Spends f) (f .single && f .told .asked) (λ _. refused-spends _) (λ h. query-spends _ _ refl (rw one at h))
+  queries-spend (Size n m) = refused-spends _
+  queries-spend (Arc t h w) = refused-spends _
+  queries-spend (TwoWay t h w) = refused-spends _
+  queries-spend (Potentials v h k) = refused-spends _
+  queries-spend Unsound = refused-spends _
+
+  broken-spends : Spends f (brokenLine f)
+  unfolding brokenLine
+  broken-spends = cases (Spends f) (eqb (f .line) lastLine) (λ _. refused-spends _) (λ _. refused-spends _)
+
+  line-spends : Spends f (takeLine f)
+  unfolding takeLine takeFrame
+  line-spends =
+      let g : Frame = frameOf (f .held) in
+      cases (Spends f) (eqb (f .line) lastLine) (λ _. refused-spends _)
+      (λ _. cases (Spends f) (sizeOwed (f .told)) (λ _. size-spends g)
+      (λ _. cases (Spends f) (arcsOwed (f .told)) (λ _. arcs-spend g)
+      (λ _. cases (Spends f) (potentialsOwed (f .told)) (λ _. potentials-spend g) (λ _. queries-spend g))))
+
+byte-spends : (f : File) (b : ℕ) → f .single ≡ true → Spends f (takeByte f b)
+unfolding takeByte atMost
+byte-spends f b one =
+    cases (Spends f) (f .going)
+    (λ goes. cases (Spends f) (eqb b lineFeed) (λ _. line-spends f one goes)
+    (λ _. cases (Spends f) (ltb (length (f .held)) mostDigits) (λ _. record { still-single = one; out-of = omega arith })
+    (λ _. broken-spends f one goes)))
+    (λ _. record { still-single = one; out-of = omega arith })
+
+end-spends : (f : File) → f .single ≡ true → length (endOfInput f) ≤ atMost f
+unfolding endOfInput
+end-spends f one =
+    cases (λ (l : List ℕ). length l ≤ atMost f) (f .going)
+    (λ goes. cases (λ (l : List ℕ). length l ≤ atMost f) (eqb (length (f .held)) 0)
+    (λ _. cases (λ (l : List ℕ). length l ≤ atMost f) (owing (f .told)) (λ _. printed (refused-spends f one goes (MisplacedLine (f .line)))) (λ _. omega arith))
+    (λ _. printed (broken-spends f one goes)))
+    (λ _. omega arith)
+  where
+    printed : {s : Step} → Spends f s → length (s .printed) ≤ atMost f
+    printed h = omega (arith, h .out-of)
+
+rest-spends : (f : File) (bytes : List ℕ) → f .single ≡ true → length (restOf f bytes) ≤ atMost f
+rest-spends f [] one = rw rest-none (end-spends f one)
+rest-spends f (b ∷ bytes) one =
+    let s : Spends f (takeByte f b) = byte-spends f b one in
+    let n : length (restOf f (b ∷ bytes)) ≡ length (takeByte f b .printed) + length (restOf (takeByte f b .file) bytes) = ap length (rest-byte f b bytes) ∙ length-append (takeByte f b .printed) _ in
+    omega (arith, n, s .out-of, rest-spends (takeByte f b .file) bytes (s .still-single))
+
+-- the display's answer has no more bytes than one answer's lines and a refusal's
+pub display-short : (line : ℕ) (bytes : List ℕ) → length (restOf (beginning true line) bytes) ≤ mostBytes + refusalBytes
+unfolding atMost
+display-short line bytes = rest-spends (beginning true line) bytes refl

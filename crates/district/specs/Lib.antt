@@ -1,0 +1,9 @@
+pub mod File
+pub mod Reader
+pub mod ReaderLaws
+pub mod TakenLaws
+pub mod QueryLaws
+pub mod FileLaws
+pub mod GatherLaws
+pub mod OneAnswer
+pub mod Cases

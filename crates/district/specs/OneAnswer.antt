@@ -1,0 +1,102 @@
+-- Each public function's contract admits a single answer: whatever two runs on the same input return and leave in the lent
+-- lists, they are the same. Assumes nothing.
+use mathlib.Core.Path.{_≡_, sym, ap, _∙_}
+use mathlib.Core.Bool.{Bool}
+use mathlib.Core.List.{List}
+use Prim.Native.Nat.{ℕ}
+use lib.IntN.{ℤ, pos}
+use lib.ListN.{length, take, drop, replicate, take-append-drop, length-replicate}
+use native.Mathlib.Omega.{arith}
+use Rattle.network.specs.Network.{mostNodes, mostArcs}
+use Rattle.frames.specs.Frame.{mostDigits}
+use Rattle.frames.specs.Room.{Placed}
+use Rattle.district.specs.declared.Reader.{Reader}
+use Rattle.district.specs.declared.Taken.{Taken}
+use Rattle.district.specs.File.{File, Step, displayAnswer}
+use Rattle.district.specs.Reader.{Lists, lists, toldBy, fileOf, Counted, Roomy, Kept, Stepped, Ended, startReader}
+use Rattle.district.specs.ReaderLaws.{count-tails, count-forward, count-held}
+
+-- `start`
+pub start-one-answer : (single : Bool) (line : ℕ) (r s : Reader) → r ≡ startReader single line → s ≡ startReader single line → r ≡ s
+start-one-answer single line r s p q = p ∙ sym q
+
+-- two lists that agree up to a count and beyond it are the same
+same-list : {A : Type 0} (n m : ℕ) (x y z : List A) → n ≡ m → take n x ≡ take m y → drop n x ≡ drop n z → drop m y ≡ drop m z → x ≡ y
+same-list n m x y z e p q r = sym (take-append-drop n x) ∙ (rw (p, q, e, ← r) (take-append-drop m y))
+
+-- `take_byte`: the results, the lists and the room
+module _ (s : Step) (l : Lists) (room : List ℕ) (t u : Taken) (a b : Lists) (x y : List ℕ) (p : Stepped s t l a room x) (q : Stepped s u l b room y) where
+  same-file : fileOf (t .reader) a ≡ fileOf (u .reader) b
+  same-file = p .file-is ∙ sym (q .file-is)
+
+  same-arcs-read : t .reader .«arcs_read» ≡ u .reader .«arcs_read»
+  unfolding fileOf
+  same-arcs-read = sym (count-tails (t .reader) a (p .kept)) ∙ (ap (λ (f : File). length (f .told .tails)) same-file ∙ count-tails (u .reader) b (q .kept))
+
+  same-nodes-read : t .reader .«nodes_read» ≡ u .reader .«nodes_read»
+  unfolding fileOf
+  same-nodes-read = sym (count-forward (t .reader) a (p .kept)) ∙ (ap (λ (f : File). length (f .told .forward)) same-file ∙ count-forward (u .reader) b (q .kept))
+
+  same-held : t .reader .held ≡ u .reader .held
+  same-held = sym (count-held (t .reader) a (p .kept)) ∙ (ap (λ (f : File). length (f .held)) same-file ∙ count-held (u .reader) b (q .kept))
+
+  pub take-byte-one-answer : (t ≡ u) × (a ≡ b) × (x ≡ y)
+  unfolding fileOf toldBy
+  take-byte-one-answer =
+      let line : t .reader .line ≡ u .reader .line = ap (λ (f : File). f .line) same-file in
+      let single : t .reader .single ≡ u .reader .single = ap (λ (f : File). f .single) same-file in
+      let going : t .reader .going ≡ u .reader .going = ap (λ (f : File). f .going) same-file in
+      let nodes : t .reader .nodes ≡ u .reader .nodes = ap (λ (f : File). f .told .nodes) same-file in
+      let arcs : t .reader .arcs ≡ u .reader .arcs = ap (λ (f : File). f .told .arcs) same-file in
+      let asked : t .reader .asked ≡ u .reader .asked = ap (λ (f : File). f .told .asked) same-file in
+      let written : t .written ≡ u .written = p .room-is .count-is ∙ sym (q .room-is .count-is) in
+      let held : a .line ≡ b .line = same-list _ _ _ _ (l .line) same-held (ap (λ (f : File). f .held) same-file) (p .beyond .line) (q .beyond .line) in
+      let tails : a .tails ≡ b .tails = same-list _ _ _ _ (l .tails) same-arcs-read (ap (λ (f : File). f .told .tails) same-file) (p .beyond .tails) (q .beyond .tails) in
+      let heads : a .heads ≡ b .heads = same-list _ _ _ _ (l .heads) same-arcs-read (ap (λ (f : File). f .told .heads) same-file) (p .beyond .heads) (q .beyond .heads) in
+      let weights : a .weights ≡ b .weights = same-list _ _ _ _ (l .weights) same-arcs-read (ap (λ (f : File). f .told .weights) same-file) (p .beyond .weights) (q .beyond .weights) in
+      let forward : a .forward ≡ b .forward = same-list _ _ _ _ (l .forward) same-nodes-read (ap (λ (f : File). f .told .forward) same-file) (p .beyond .forward) (q .beyond .forward) in
+      let backward : a .backward ≡ b .backward = same-list _ _ _ _ (l .backward) same-nodes-read (ap (λ (f : File). f .told .backward) same-file) (p .beyond .backward) (q .beyond .backward) in (
+        λ i. record {
+          reader = record {
+            line = line i;
+            held = same-held i;
+            single = single i;
+            going = going i;
+            nodes = nodes i;
+            arcs = arcs i;
+            «arcs_read» = same-arcs-read i;
+            «nodes_read» = same-nodes-read i;
+            asked = asked i;
+          };
+          written = written i;
+        },
+        λ i. record { line = held i; tails = tails i; heads = heads i; weights = weights i; forward = forward i; backward = backward i },
+        p .room-is .room-is ∙ sym (q .room-is .room-is),
+      )
+
+-- lists with just enough room
+abbrev enough : Lists
+enough = lists (replicate mostDigits 0) (replicate mostArcs 0) (replicate mostArcs 0) (replicate mostArcs 0) (replicate mostNodes (pos 0)) (replicate mostNodes (pos 0))
+
+roomy-enough : Roomy enough
+roomy-enough =
+    record {
+      for-line = omega (arith, length-replicate {A = ℕ} mostDigits 0);
+      for-tails = omega (arith, length-replicate {A = ℕ} mostArcs 0);
+      for-heads = omega (arith, length-replicate {A = ℕ} mostArcs 0);
+      for-weights = omega (arith, length-replicate {A = ℕ} mostArcs 0);
+      for-forward = omega (arith, length-replicate {A = ℤ} mostNodes (pos 0));
+      for-backward = omega (arith, length-replicate {A = ℤ} mostNodes (pos 0));
+    }
+
+-- `end_of_input`
+pub end-of-input-one-answer : (r : Reader) → Counted r → (room after after′ : List ℕ) (n n′ : ℕ) → Ended r room after n → Ended r room after′ n′ → (n ≡ n′) × (after ≡ after′)
+end-of-input-one-answer r c room after after′ n n′ p q =
+    let k : Kept r enough = record { counted = c; roomy = roomy-enough } in
+    let a = p .law enough k in
+    let b = q .law enough k in
+    (a .count-is ∙ sym (b .count-is), a .room-is ∙ sym (b .room-is))
+
+-- `answer_file`
+pub answer-file-one-answer : (file room after after′ : List ℕ) (n n′ : ℕ) → Placed (displayAnswer file) room after n → Placed (displayAnswer file) room after′ n′ → (n ≡ n′) × (after ≡ after′)
+answer-file-one-answer file room after after′ n n′ p q = (p .count-is ∙ sym (q .count-is), p .room-is ∙ sym (q .room-is))

@@ -1,0 +1,145 @@
+-- Laws of readers and steps: how a reader begins, what a step that changes no list has to show, and what a reader's counts say
+-- of the file that it stands for. Assumes nothing.
+use mathlib.Core.Path.{_≡_, refl, subst}
+use mathlib.Core.Bool.{Bool, true, false}
+use mathlib.Core.List.{List, []}
+use Prim.Native.Nat.{ℕ, _≤_, _<_}
+use native.Mathlib.Omega.{arith}
+use lib.IntN.{ℤ}
+use lib.ListN.{length, take}
+use lib.Seq.{length-take-le}
+use borrow.Author.Tests.{eq-eqb, ne-eqb, lt-ltb, le-ltb}
+use Rattle.network.specs.declared.Cause.the-variants.{MisplacedLine}
+use Rattle.frames.specs.declared.Frame.{Frame}
+use Rattle.frames.specs.Frame.{mostDigits, frameOf}
+use Rattle.frames.specs.AnswerLines.{lineFeed}
+use Rattle.frames.specs.RoomLaws.{nothing-placed}
+use Rattle.district.specs.declared.Reader.{Reader}
+use Rattle.district.specs.declared.Taken.{Taken}
+use Rattle.district.specs.File.{File, Step, step, beginning, lastLine, refused, takeSize, takeArcs, takePotentials, takeQuery, takeFrame, takeLine, brokenLine, holding, takeByte, owing, endOfInput}
+use Rattle.district.specs.Reader.{Lists, lists, toldBy, fileOf, Counted, Roomy, Kept, Beyond, Stepped, SteppedOver, SteppedArcs, SteppedPotentials, startReader, owesBy}
+
+-- ---- the beginning
+pub start-file : (single : Bool) (line : ℕ) (l : Lists) → fileOf (startReader single line) l ≡ beginning single line
+unfolding fileOf toldBy startReader
+start-file single line l = refl
+
+pub start-counted : (single : Bool) (line : ℕ) → Counted (startReader single line)
+unfolding startReader
+start-counted single line =
+    record {
+      arcs-within = omega arith;
+      few-arcs = omega arith;
+      nodes-within = omega arith;
+      few-nodes = omega arith;
+      size-first = λ h. refl;
+      held-within = omega arith;
+    }
+
+pub start-kept : (single : Bool) (line : ℕ) (l : Lists) → Roomy l → Kept (startReader single line) l
+start-kept single line l h = record { counted = start-counted single line; roomy = h }
+
+-- ---- steps that change no list
+pub beyond-same : (r : Reader) (l : Lists) → Beyond r l l
+beyond-same r l = record { line = refl; tails = refl; heads = refl; weights = refl; forward = refl; backward = refl }
+
+-- what is promised of a step is promised of one that is equal to it
+pub stepped-as : {s s′ : Step} {t : Taken} {l after : Lists} {room room′ : List ℕ} → s ≡ s′ → Stepped s t l after room room′ → Stepped s′ t l after room room′
+stepped-as {s} {s′} {t} {l} {after} {room} {room′} e h = subst (λ (x : Step). Stepped x t l after room room′) e h
+
+pub over-as : {s s′ : File → Step} {r : Reader} {t : Taken} {room room′ : List ℕ} → ((l : Lists) → Kept r l → s (fileOf r l) ≡ s′ (fileOf r l))
+    → SteppedOver s r t room room′ → SteppedOver s′ r t room room′
+over-as e h = record { law = λ l k. stepped-as (e l k) (h .law l k) }
+
+pub over-arcs : {s : File → Step} {r : Reader} {t : Taken} {room room′ : List ℕ} (tails heads weights : List ℕ) → SteppedOver s r t room room′
+    → SteppedArcs s r t tails heads weights tails heads weights room room′
+over-arcs tails heads weights h = record { law = λ line f b k. h .law (lists line tails heads weights f b) k }
+
+pub over-potentials : {s : File → Step} {r : Reader} {t : Taken} {room room′ : List ℕ} (f b : List ℤ) → SteppedOver s r t room room′
+    → SteppedPotentials s r t f b f b room room′
+over-potentials f b h = record { law = λ line tails heads weights k. h .law (lists line tails heads weights f b) k }
+
+-- ---- counts
+module _ (r : Reader) (l : Lists) (k : Kept r l) where
+  pub count-tails : length (toldBy r l .tails) ≡ r .«arcs_read»
+  unfolding toldBy
+  count-tails = length-take-le _ _ (omega arith)
+
+  pub count-forward : length (toldBy r l .forward) ≡ r .«nodes_read»
+  unfolding toldBy
+  count-forward = length-take-le _ _ (omega arith)
+
+  pub count-held : length (fileOf r l .held) ≡ r .held
+  unfolding fileOf
+  count-held = length-take-le _ _ (omega arith)
+
+  -- a frame is owed by the file exactly where it is by the reader's counts
+  pub owing-by : owing (toldBy r l) ≡ owesBy r
+  unfolding owesBy toldBy
+  owing-by = rw (count-tails, count-forward)
+
+-- ---- which step is taken
+module _ (r : Reader) (l : Lists) (k : Kept r l) (g : Frame) where
+  pub where-size-owed : r .nodes ≡ 0 → takeSize (fileOf r l) g ≡ takeFrame (fileOf r l) g
+  unfolding takeFrame fileOf toldBy
+  where-size-owed none = rw (eq-eqb _ _ none)
+
+  pub where-arcs-owed : (r .nodes ≡ 0 → ⊥) → r .«arcs_read» < r .arcs → takeArcs (fileOf r l) g ≡ takeFrame (fileOf r l) g
+  unfolding takeFrame fileOf toldBy
+  where-arcs-owed some owed = rw (ne-eqb _ _ some, count-tails r l k, lt-ltb _ _ owed)
+
+  pub where-potentials-owed : (r .nodes ≡ 0 → ⊥) → r .arcs ≤ r .«arcs_read» → r .«nodes_read» < r .nodes → takePotentials (fileOf r l) g ≡ takeFrame (fileOf r l) g
+  unfolding takeFrame fileOf toldBy
+  where-potentials-owed some all owed = rw (ne-eqb _ _ some, count-tails r l k, le-ltb _ _ all, count-forward r l k, lt-ltb _ _ owed)
+
+  pub where-none-owed : (r .nodes ≡ 0 → ⊥) → r .arcs ≤ r .«arcs_read» → r .nodes ≤ r .«nodes_read» → takeQuery (fileOf r l) g ≡ takeFrame (fileOf r l) g
+  unfolding takeFrame fileOf toldBy
+  where-none-owed some all each = rw (ne-eqb _ _ some, count-tails r l k, le-ltb _ _ all, count-forward r l k, le-ltb _ _ each)
+
+module _ (r : Reader) (l : Lists) where
+  -- the last line, and any other
+  pub last-line : r .line ≡ lastLine → refused (fileOf r l) (MisplacedLine lastLine) ≡ takeLine (fileOf r l)
+  unfolding takeLine fileOf
+  last-line e = rw (eq-eqb _ _ e)
+
+  pub other-line : {g : Frame} → (r .line ≡ lastLine → ⊥) → g ≡ frameOf (take (r .held) (l .line)) → takeFrame (fileOf r l) g ≡ takeLine (fileOf r l)
+  unfolding takeLine fileOf
+  other-line differs e = rw (ne-eqb _ _ differs, e)
+
+  -- what a byte is: nothing once the file has ended, a line's end, one more of the line, or one too many
+  pub ended-byte : (b : ℕ) → r .going ≡ false → step (fileOf r l) [] ≡ takeByte (fileOf r l) b
+  unfolding takeByte fileOf
+  ended-byte b e = rw e
+
+  pub line-feed-byte : (b : ℕ) → r .going ≡ true → b ≡ lineFeed → takeLine (fileOf r l) ≡ takeByte (fileOf r l) b
+  unfolding takeByte fileOf
+  line-feed-byte b e h = rw (e, eq-eqb _ _ h)
+
+  pub held-byte : (b : ℕ) → Kept r l → r .going ≡ true → (b ≡ lineFeed → ⊥) → r .held < mostDigits → step (holding (fileOf r l) b) [] ≡ takeByte (fileOf r l) b
+  unfolding takeByte fileOf
+  held-byte b k e h short = rw (ne-eqb _ _ h, count-held r l k, lt-ltb _ _ short) (rw e)
+
+  pub byte-too-many : (b : ℕ) → Kept r l → r .going ≡ true → (b ≡ lineFeed → ⊥) → mostDigits ≤ r .held → brokenLine (fileOf r l) ≡ takeByte (fileOf r l) b
+  unfolding takeByte fileOf
+  byte-too-many b k e h long = rw (ne-eqb _ _ h, count-held r l k, le-ltb _ _ long) (rw e)
+
+  -- nothing is done
+  pub stepped-nothing : (room : List ℕ) → Kept r l → Stepped (step (fileOf r l) []) (record { reader = r; written = 0 }) l l room room
+  stepped-nothing room k = record { file-is = refl; beyond = beyond-same r l; room-is = nothing-placed room; kept = k }
+
+  -- the end of input, in its four cases
+  pub end-of-ended : r .going ≡ false → [] ≡ endOfInput (fileOf r l)
+  unfolding endOfInput fileOf
+  end-of-ended e = rw e
+
+  pub end-in-line : Kept r l → r .going ≡ true → (r .held ≡ 0 → ⊥) → brokenLine (fileOf r l) .printed ≡ endOfInput (fileOf r l)
+  unfolding endOfInput fileOf
+  end-in-line k e h = rw (count-held r l k, ne-eqb _ _ h) (rw e)
+
+  pub end-owing : Kept r l → r .going ≡ true → r .held ≡ 0 → owesBy r ≡ true → refused (fileOf r l) (MisplacedLine (r .line)) .printed ≡ endOfInput (fileOf r l)
+  unfolding endOfInput fileOf
+  end-owing k e h owes = rw (count-held r l k, eq-eqb _ _ h, owing-by r l k, owes) (rw e)
+
+  pub end-of-whole : Kept r l → r .going ≡ true → r .held ≡ 0 → owesBy r ≡ false → [] ≡ endOfInput (fileOf r l)
+  unfolding endOfInput fileOf
+  end-of-whole k e h owes = rw (count-held r l k, eq-eqb _ _ h, owing-by r l k, owes) (rw e)

@@ -1,0 +1,147 @@
+// A query of a file, answered as soon as its line is read: the work lists and the path are local, so a query leaves nothing
+// behind but its lines.
+ghost use mathlib.Core.Path.{_≡_};
+ghost use mathlib.Core.Bool.{_&&_};
+ghost use Rattle.network.specs.Network.{network};
+ghost use Rattle.network.specs.Query.{query};
+ghost use Rattle.frames.specs.Frame.{patternOf};
+ghost use Rattle.frames.specs.Room.{Placed};
+ghost use Rattle.district.specs.File.{queryLines, takeQuery};
+ghost use Rattle.district.specs.Reader.{lists, fileOf, Kept, Stepped, NotLast};
+use crate::Reader;
+use crate::Taken;
+use crate::frame;
+use frames::Frame;
+
+// The lines of a query's answer. The work lists and the path list have room for the most nodes, so no query is refused for
+// its room.
+fn write_lines(
+    nodes: u16,
+    tails: &[u16],
+    heads: &[u16],
+    weights: &[u32],
+    forward: &[i32],
+    backward: &[i32],
+    start: u16,
+    end: u16,
+    pattern: &[u8],
+    room: &mut [u8],
+) -> usize
+    ensures { λ r. ⌜ Placed (queryLines (query (network nodes (now (tails .entry)) (now (heads .entry)) (now (weights .entry))) (now (forward .entry)) (now (backward .entry)) start end (now (pattern .entry)))) (now (room .entry)) (now (room .exit)) r ⌝ }
+{
+    let mut start_labels = [0u32; 2048];
+    let mut start_neighbours = [0u16; 2048];
+    let mut end_labels = [0u32; 2048];
+    let mut end_neighbours = [0u16; 2048];
+    let mut states = [0u8; 2048];
+    let mut path = [0u16; 2048];
+    let answer = search::query(
+        nodes,
+        tails,
+        heads,
+        weights,
+        forward,
+        backward,
+        start,
+        end,
+        pattern,
+        &mut start_labels,
+        &mut start_neighbours,
+        &mut end_labels,
+        &mut end_neighbours,
+        &mut states,
+        &mut path,
+    );
+    frames::write_answer(room, answer, &path)
+}
+
+// The same for the pattern that a query's line spells, which has at most 255 entries.
+fn answer_query(
+    nodes: u16,
+    tails: &[u16],
+    heads: &[u16],
+    weights: &[u32],
+    forward: &[i32],
+    backward: &[i32],
+    start: u16,
+    end: u16,
+    line: &[u8],
+    room: &mut [u8],
+) -> usize
+    ensures { λ r. ⌜ Placed (queryLines (query (network nodes (now (tails .entry)) (now (heads .entry)) (now (weights .entry))) (now (forward .entry)) (now (backward .entry)) start end (patternOf (now (line .entry))))) (now (room .entry)) (now (room .exit)) r ⌝ }
+{
+    let mut entries = [0u8; 255];
+    let n = frames::pattern(line, &mut entries);
+    write_lines(
+        nodes,
+        tails,
+        heads,
+        weights,
+        forward,
+        backward,
+        start,
+        end,
+        &entries[..n],
+        room,
+    )
+}
+
+// Whether a query that comes now is the second in a file that may have one only.
+fn one_too_many(reader: Reader) -> bool
+    ensures { λ r. ⌜ r ≡ (reader .single && reader .asked) ⌝ }
+{
+    if reader.single {
+        return reader.asked;
+    }
+    false
+}
+
+// A 04 where a query may stand. A second one in a file that may have one only is 11.
+pub fn take_query(
+    reader: Reader,
+    frame: Frame,
+    line: &[u8],
+    tails: &[u16],
+    heads: &[u16],
+    weights: &[u32],
+    forward: &[i32],
+    backward: &[i32],
+    room: &mut [u8],
+) -> Taken
+    requires { ⌜ NotLast reader ⌝ }
+    requires { ⌜ Kept reader (lists (now line) (now tails) (now heads) (now weights) (now forward) (now backward)) ⌝ }
+    ensures { λ r. ⌜ Stepped (takeQuery (fileOf reader (lists (now (line .entry)) (now (tails .entry)) (now (heads .entry)) (now (weights .entry)) (now (forward .entry)) (now (backward .entry)))) frame) r (lists (now (line .entry)) (now (tails .entry)) (now (heads .entry)) (now (weights .entry)) (now (forward .entry)) (now (backward .entry))) (lists (now (line .entry)) (now (tails .entry)) (now (heads .entry)) (now (weights .entry)) (now (forward .entry)) (now (backward .entry))) (now (room .entry)) (now (room .exit)) ⌝ }
+{
+    let Frame::Query {
+        start,
+        end,
+        entries: _,
+    } = frame
+    else {
+        return frame::refuse_frame(reader, frame, room);
+    };
+    if one_too_many(reader) {
+        return frame::refuse_frame(reader, frame, room);
+    }
+    let held = reader.held;
+    let arcs = reader.arcs_read;
+    let nodes = reader.nodes_read;
+    let written = answer_query(
+        reader.nodes,
+        &tails[..arcs],
+        &heads[..arcs],
+        &weights[..arcs],
+        &forward[..nodes],
+        &backward[..nodes],
+        start,
+        end,
+        &line[..held],
+        room,
+    );
+    let mut next = frame::next_line(reader);
+    next.asked = true;
+    Taken {
+        reader: next,
+        written,
+    }
+}

@@ -1,0 +1,258 @@
+// One line's frame taken into a file: the 01, the arcs and the potentials, each where it is owed. Each decoded frame is taken
+// apart by `let else`, and the other branch returns the refusal.
+ghost use mathlib.Core.Path.{_≡_};
+ghost use Prim.Native.Nat.{_<_};
+ghost use lib.ListN.{length, set};
+ghost use Rattle.frames.specs.Frame.{frameOf};
+ghost use Rattle.district.specs.File.{refused, wrong, takeSize, takeArcs, takePotentials, takeFrame, takeLine, brokenLine};
+ghost use Rattle.district.specs.Reader.{lists, fileOf, nextReader, Kept, Stepped, SteppedOver, SteppedArcs, SteppedPotentials, NotLast, ArcsOpen, PotentialsOpen, NoArc};
+use crate::LAST_LINE;
+use crate::Reader;
+use crate::Taken;
+use crate::answer;
+use frames::Frame;
+use network::Answer;
+use network::Cause;
+
+// A file refusal: its line, and the file does not go on.
+pub fn refuse(reader: Reader, cause: Cause, room: &mut [u8]) -> Taken
+    ensures { λ r. ⌜ SteppedOver (λ f. refused f cause) reader r (now (room .entry)) (now (room .exit)) ⌝ }
+{
+    let no_path = [0u16; 1];
+    let written = frames::write_answer(room, Answer::Refused(cause), &no_path);
+    let mut ended = reader;
+    ended.going = false;
+    Taken {
+        reader: ended,
+        written,
+    }
+}
+
+// A frame that is not taken: 10 where it is no sound frame, else 11.
+pub fn refuse_frame(reader: Reader, frame: Frame, room: &mut [u8]) -> Taken
+    ensures { λ r. ⌜ SteppedOver (λ f. wrong f frame) reader r (now (room .entry)) (now (room .exit)) ⌝ }
+{
+    let Frame::Unsound = frame else {
+        return refuse(reader, Cause::MisplacedLine(reader.line), room);
+    };
+    refuse(reader, Cause::UnsoundLine(reader.line), room)
+}
+
+// The reader at the beginning of the next line.
+pub fn next_line(reader: Reader) -> Reader
+    requires { ⌜ NotLast reader ⌝ }
+    ensures { λ r. ⌜ r ≡ nextReader reader ⌝ }
+{
+    let mut next = reader;
+    next.line = reader.line + 1;
+    next.held = 0;
+    next
+}
+
+// The 01: a bad node count is 1, a bad arc count is 2.
+fn take_size(reader: Reader, frame: Frame, room: &mut [u8]) -> Taken
+    requires { ⌜ NotLast reader ⌝ }
+    requires { ⌜ reader .nodes ≡ 0 ⌝ }
+    ensures { λ r. ⌜ SteppedOver (λ f. takeSize f frame) reader r (now (room .entry)) (now (room .exit)) ⌝ }
+{
+    let Frame::Size { nodes, arcs } = frame else {
+        return refuse_frame(reader, frame, room);
+    };
+    if nodes == 0 {
+        return refuse(reader, Cause::NodeCount, room);
+    }
+    if network::MOST_NODES < nodes {
+        return refuse(reader, Cause::NodeCount, room);
+    }
+    if network::MOST_ARCS < arcs as usize {
+        return refuse(reader, Cause::ArcLists, room);
+    }
+    let mut next = next_line(reader);
+    next.nodes = nodes;
+    next.arcs = arcs as usize;
+    Taken {
+        reader: next,
+        written: 0,
+    }
+}
+
+// An arc's entries in the three lists.
+fn put_arc(
+    tails: &mut [u16],
+    heads: &mut [u16],
+    weights: &mut [u32],
+    at: usize,
+    tail: u16,
+    head: u16,
+    weight: u32,
+)
+    requires { ⌜ (at < length (now tails)) × (at < length (now heads)) × (at < length (now weights)) ⌝ }
+    ensures { λ _. ⌜ (now (tails .exit) ≡ set (now (tails .entry)) at tail) × (now (heads .exit) ≡ set (now (heads .entry)) at head) × (now (weights .exit) ≡ set (now (weights .entry)) at weight) ⌝ }
+{
+    tails[at] = tail;
+    heads[at] = head;
+    weights[at] = weight;
+}
+
+// A 05, which gives two arcs where two are owed: the arc and then its reverse.
+fn take_link(
+    reader: Reader,
+    frame: Frame,
+    tails: &mut [u16],
+    heads: &mut [u16],
+    weights: &mut [u32],
+    room: &mut [u8],
+) -> Taken
+    requires { ⌜ ArcsOpen reader (now tails) (now heads) (now weights) ⌝ }
+    requires { ⌜ NoArc frame ⌝ }
+    ensures { λ r. ⌜ SteppedArcs (λ f. takeArcs f frame) reader r (now (tails .entry)) (now (heads .entry)) (now (weights .entry)) (now (tails .exit)) (now (heads .exit)) (now (weights .exit)) (now (room .entry)) (now (room .exit)) ⌝ }
+{
+    let Frame::TwoWay { tail, head, weight } = frame else {
+        return refuse_frame(reader, frame, room);
+    };
+    let at = reader.arcs_read;
+    if reader.arcs - at < 2 {
+        return refuse_frame(reader, frame, room);
+    }
+    put_arc(tails, heads, weights, at, tail, head, weight);
+    put_arc(tails, heads, weights, at + 1, head, tail, weight);
+    let mut next = next_line(reader);
+    next.arcs_read = at + 2;
+    Taken {
+        reader: next,
+        written: 0,
+    }
+}
+
+// A 02 or a 05 where arcs are owed.
+fn take_arcs(
+    reader: Reader,
+    frame: Frame,
+    tails: &mut [u16],
+    heads: &mut [u16],
+    weights: &mut [u32],
+    room: &mut [u8],
+) -> Taken
+    requires { ⌜ ArcsOpen reader (now tails) (now heads) (now weights) ⌝ }
+    ensures { λ r. ⌜ SteppedArcs (λ f. takeArcs f frame) reader r (now (tails .entry)) (now (heads .entry)) (now (weights .entry)) (now (tails .exit)) (now (heads .exit)) (now (weights .exit)) (now (room .entry)) (now (room .exit)) ⌝ }
+{
+    let Frame::Arc { tail, head, weight } = frame else {
+        return take_link(reader, frame, tails, heads, weights, room);
+    };
+    let at = reader.arcs_read;
+    put_arc(tails, heads, weights, at, tail, head, weight);
+    let mut next = next_line(reader);
+    next.arcs_read = at + 1;
+    Taken {
+        reader: next,
+        written: 0,
+    }
+}
+
+// A 03 where potentials are owed: those of the next node, and of no other.
+fn take_potentials(
+    reader: Reader,
+    frame: Frame,
+    forward: &mut [i32],
+    backward: &mut [i32],
+    room: &mut [u8],
+) -> Taken
+    requires { ⌜ PotentialsOpen reader (now forward) (now backward) ⌝ }
+    ensures { λ r. ⌜ SteppedPotentials (λ f. takePotentials f frame) reader r (now (forward .entry)) (now (backward .entry)) (now (forward .exit)) (now (backward .exit)) (now (room .entry)) (now (room .exit)) ⌝ }
+{
+    let Frame::Potentials { node, h, k } = frame else {
+        return refuse_frame(reader, frame, room);
+    };
+    let at = reader.nodes_read;
+    if node as usize != at {
+        return refuse_frame(reader, frame, room);
+    }
+    forward[at] = h;
+    backward[at] = k;
+    let mut next = next_line(reader);
+    next.nodes_read = at + 1;
+    Taken {
+        reader: next,
+        written: 0,
+    }
+}
+
+// A sound or unsound frame where it stands: the 01 first, then arcs, then potentials, then queries.
+fn take_frame(
+    reader: Reader,
+    frame: Frame,
+    line: &[u8],
+    tails: &mut [u16],
+    heads: &mut [u16],
+    weights: &mut [u32],
+    forward: &mut [i32],
+    backward: &mut [i32],
+    room: &mut [u8],
+) -> Taken
+    requires { ⌜ NotLast reader ⌝ }
+    requires { ⌜ Kept reader (lists (now line) (now tails) (now heads) (now weights) (now forward) (now backward)) ⌝ }
+    ensures { λ r. ⌜ Stepped (takeFrame (fileOf reader (lists (now (line .entry)) (now (tails .entry)) (now (heads .entry)) (now (weights .entry)) (now (forward .entry)) (now (backward .entry)))) frame) r (lists (now (line .entry)) (now (tails .entry)) (now (heads .entry)) (now (weights .entry)) (now (forward .entry)) (now (backward .entry))) (lists (now (line .entry)) (now (tails .exit)) (now (heads .exit)) (now (weights .exit)) (now (forward .exit)) (now (backward .exit))) (now (room .entry)) (now (room .exit)) ⌝ }
+{
+    if reader.nodes == 0 {
+        return take_size(reader, frame, room);
+    }
+    if reader.arcs_read < reader.arcs {
+        return take_arcs(reader, frame, tails, heads, weights, room);
+    }
+    if reader.nodes_read < reader.nodes as usize {
+        return take_potentials(reader, frame, forward, backward, room);
+    }
+    answer::take_query(
+        reader,
+        frame,
+        line,
+        tails,
+        heads,
+        weights,
+        forward,
+        backward,
+        room,
+    )
+}
+
+// A whole line, taken without its line feed. Line 4,294,967,295 is 11, sound or not.
+pub fn take_line(
+    reader: Reader,
+    line: &[u8],
+    tails: &mut [u16],
+    heads: &mut [u16],
+    weights: &mut [u32],
+    forward: &mut [i32],
+    backward: &mut [i32],
+    room: &mut [u8],
+) -> Taken
+    requires { ⌜ Kept reader (lists (now line) (now tails) (now heads) (now weights) (now forward) (now backward)) ⌝ }
+    ensures { λ r. ⌜ Stepped (takeLine (fileOf reader (lists (now (line .entry)) (now (tails .entry)) (now (heads .entry)) (now (weights .entry)) (now (forward .entry)) (now (backward .entry))))) r (lists (now (line .entry)) (now (tails .entry)) (now (heads .entry)) (now (weights .entry)) (now (forward .entry)) (now (backward .entry))) (lists (now (line .entry)) (now (tails .exit)) (now (heads .exit)) (now (weights .exit)) (now (forward .exit)) (now (backward .exit))) (now (room .entry)) (now (room .exit)) ⌝ }
+{
+    if reader.line == LAST_LINE {
+        return refuse(reader, Cause::MisplacedLine(LAST_LINE), room);
+    }
+    let held = reader.held;
+    let frame = frames::decode(&line[..held]);
+    take_frame(
+        reader,
+        frame,
+        line,
+        tails,
+        heads,
+        weights,
+        forward,
+        backward,
+        room,
+    )
+}
+
+// A line that is too long, or that the end of input cut short: 10, but line 4,294,967,295 is 11.
+pub fn refuse_broken(reader: Reader, room: &mut [u8]) -> Taken
+    ensures { λ r. ⌜ SteppedOver brokenLine reader r (now (room .entry)) (now (room .exit)) ⌝ }
+{
+    if reader.line == LAST_LINE {
+        return refuse(reader, Cause::MisplacedLine(LAST_LINE), room);
+    }
+    refuse(reader, Cause::UnsoundLine(reader.line), room)
+}

@@ -1,0 +1,211 @@
+// A district file, byte by byte (document 01, "District frames"). A small reader goes by value from step to step, and the lists
+// that hold the line and the network are lent to each step and kept between them. A query is answered as soon as its line
+// ends. What a file is answered is defined in specs/File.antt; each step here does what that definition says.
+ghost use mathlib.Core.Path.{_≡_};
+ghost use Prim.Native.Nat.{_+_, _≤_};
+ghost use lib.ListN.{length};
+ghost use Rattle.frames.specs.Room.{Placed, Laid};
+ghost use Rattle.district.specs.File.{takeByte, displayAnswer};
+ghost use Rattle.district.specs.Reader.{mostBytes, refusalBytes, Roomy, startReader, lists, fileOf, Kept, Stepped, Counted, Ended, owesBy};
+
+mod answer;
+mod frame;
+
+use network::Cause;
+
+// The line with this number is 11, sound or not.
+const LAST_LINE: u32 = 4294967295;
+
+const LINE_FEED: u8 = 10;
+
+// The most bytes of an answer: a route's line, and the line of a path over as many nodes as there can be.
+pub const MOST_BYTES: usize = 31 + 3 + 4 * 2048;
+
+// The bytes of a refusal's line.
+const REFUSAL_BYTES: usize = 13;
+
+// Where a file stands: the line that is being read and how many bytes of it there are, whether one query only may stand in it,
+// whether it goes on, what its 01 stated (no nodes while the 01 is owed), how many arcs and potentials were read, and whether a
+// query was answered.
+pub struct Reader {
+    pub line: u32,
+    pub held: usize,
+    pub single: bool,
+    pub going: bool,
+    pub nodes: u16,
+    pub arcs: usize,
+    pub arcs_read: usize,
+    pub nodes_read: usize,
+    pub asked: bool,
+}
+
+// The reader after a step, and how many bytes of the room the step wrote.
+pub struct Taken {
+    pub reader: Reader,
+    pub written: usize,
+}
+
+// A reader of a file of which nothing is read; its first line has this number.
+pub fn start(single: bool, line: u32) -> Reader
+    ensures { λ r. ⌜ r ≡ startReader single line ⌝ }
+{
+    Reader {
+        line,
+        held: 0,
+        single,
+        going: true,
+        nodes: 0,
+        arcs: 0,
+        arcs_read: 0,
+        nodes_read: 0,
+        asked: false,
+    }
+}
+
+// The next byte of a file. A line feed ends the line, which is taken; what it prints is placed at the front of the room. A line
+// with more bytes than any input frame has digits is refused at once. Where a refusal has ended the file nothing happens.
+pub fn take_byte(
+    reader: Reader,
+    byte: u8,
+    line: &mut [u8],
+    tails: &mut [u16],
+    heads: &mut [u16],
+    weights: &mut [u32],
+    forward: &mut [i32],
+    backward: &mut [i32],
+    room: &mut [u8],
+) -> Taken
+    requires { ⌜ Kept reader (lists (now line) (now tails) (now heads) (now weights) (now forward) (now backward)) ⌝ }
+    ensures { λ r. ⌜ Stepped (takeByte (fileOf reader (lists (now (line .entry)) (now (tails .entry)) (now (heads .entry)) (now (weights .entry)) (now (forward .entry)) (now (backward .entry)))) byte) r (lists (now (line .entry)) (now (tails .entry)) (now (heads .entry)) (now (weights .entry)) (now (forward .entry)) (now (backward .entry))) (lists (now (line .exit)) (now (tails .exit)) (now (heads .exit)) (now (weights .exit)) (now (forward .exit)) (now (backward .exit))) (now (room .entry)) (now (room .exit)) ⌝ }
+{
+    if !reader.going {
+        return Taken { reader, written: 0 };
+    }
+    if byte == LINE_FEED {
+        return frame::take_line(reader, line, tails, heads, weights, forward, backward, room);
+    }
+    let at = reader.held;
+    if at < frames::MOST_DIGITS {
+        line[at] = byte;
+        let mut next = reader;
+        next.held = at + 1;
+        return Taken {
+            reader: next,
+            written: 0,
+        };
+    }
+    frame::refuse_broken(reader, room)
+}
+
+// Whether a frame is still owed: the 01, arcs, potentials or a query.
+fn owes(reader: Reader) -> bool
+    ensures { λ r. ⌜ r ≡ owesBy reader ⌝ }
+{
+    if reader.nodes == 0 {
+        return true;
+    }
+    if reader.arcs_read < reader.arcs {
+        return true;
+    }
+    if reader.nodes_read < reader.nodes as usize {
+        return true;
+    }
+    !reader.asked
+}
+
+// The end of input: inside a line it is 10; at the start of a line it is 11 there where a frame is owed, and nothing else.
+pub fn end_of_input(reader: Reader, room: &mut [u8]) -> usize
+    requires { ⌜ Counted reader ⌝ }
+    ensures { λ r. ⌜ Ended reader (now (room .entry)) (now (room .exit)) r ⌝ }
+{
+    if !reader.going {
+        return 0;
+    }
+    if reader.held != 0 {
+        let broken = frame::refuse_broken(reader, room);
+        return broken.written;
+    }
+    if owes(reader) {
+        let missing = frame::refuse(reader, Cause::MisplacedLine(reader.line), room);
+        return missing.written;
+    }
+    0
+}
+
+// A text at the front of the room where it fits; else 0, and the room stays as it was.
+fn place(text: &[u8], room: &mut [u8]) -> usize
+    ensures { λ r. ⌜ Placed (now (text .entry)) (now (room .entry)) (now (room .exit)) r ⌝ }
+{
+    if room.len() < text.len() {
+        return 0;
+    }
+    let mut i: usize = 0;
+    while i < text.len() {
+        room[i] = text[i];
+        i += 1;
+    }
+    i
+}
+
+// The answer of a file with one query, gathered in a text that always suffices: each answer line starts where the line before
+// it ended.
+fn gather(
+    file: &[u8],
+    line: &mut [u8],
+    tails: &mut [u16],
+    heads: &mut [u16],
+    weights: &mut [u32],
+    forward: &mut [i32],
+    backward: &mut [i32],
+    text: &mut [u8],
+) -> usize
+    requires { ⌜ Roomy (lists (now line) (now tails) (now heads) (now weights) (now forward) (now backward)) × (mostBytes + refusalBytes ≤ length (now text)) ⌝ }
+    ensures { λ r. ⌜ Laid (displayAnswer (now (file .entry))) (now (text .entry)) (now (text .exit)) r ⌝ }
+{
+    let mut reader = start(true, 1);
+    let mut at: usize = 0;
+    let mut i: usize = 0;
+    while i < file.len() {
+        let taken = take_byte(
+            reader,
+            file[i],
+            line,
+            tails,
+            heads,
+            weights,
+            forward,
+            backward,
+            &mut text[at..],
+        );
+        reader = taken.reader;
+        at += taken.written;
+        i += 1;
+    }
+    let last = end_of_input(reader, &mut text[at..]);
+    at + last
+}
+
+// The display's answer to the bytes of a file: the lines at the front of the room, and how many bytes they are. Where they do
+// not fit it is 0 and the room stays as it was.
+pub fn answer_file(file: &[u8], room: &mut [u8]) -> usize
+    ensures { λ r. ⌜ Placed (displayAnswer (now (file .entry))) (now (room .entry)) (now (room .exit)) r ⌝ }
+{
+    let mut line = [0u8; 267];
+    let mut tails = [0u16; 8192];
+    let mut heads = [0u16; 8192];
+    let mut weights = [0u32; 8192];
+    let mut forward = [0i32; 2048];
+    let mut backward = [0i32; 2048];
+    let mut text = [0u8; MOST_BYTES + REFUSAL_BYTES];
+    let n = gather(
+        file,
+        &mut line,
+        &mut tails,
+        &mut heads,
+        &mut weights,
+        &mut forward,
+        &mut backward,
+        &mut text,
+    );
+    place(&text[..n], room)
+}

@@ -1,0 +1,3 @@
+pub mod Part
+pub mod StepLaws
+pub mod PartLaws

@@ -1,0 +1,176 @@
+/*
+ * A small display: reads a district file with one query and says its answer in words.
+ *
+ *   display FILE        or, with no FILE, from standard input
+ *
+ * Exit status: 0 a route or no route, 1 the query or the file is refused, 2 there is no answer to say.
+ */
+#include <errno.h>
+#include <inttypes.h>
+#include <stdio.h>
+#include <stdlib.h>
+#include <string.h>
+
+#include "display.h"
+
+/* What each refusal says, what its place counts, and what a person should do about it. */
+struct refusal {
+    const char *place;
+    const char *means;
+    const char *todo;
+};
+
+static const struct refusal refusals[] = {
+    {NULL, "unknown refusal", "the display and its library are of different versions; install them together."},
+    {NULL, "the district has no nodes or more than 2,048", "ask for a file of a smaller district."},
+    {NULL, "the district has more than 8,192 arcs", "ask for a file of a smaller district."},
+    {NULL, "a potential list is too short", "the display and its library are of different versions; install them together."},
+    {NULL, "the start or the end is no node of this district", "choose a start and an end on this district's map."},
+    {NULL, "the turn pattern is empty, too long, or has an entry other than 0 and 1", "correct the pattern of the query."},
+    {NULL, "a work list is too short", "the display and its library are of different versions; install them together."},
+    {"arc", "the arc has an end that is no node, or too large a weight", "do not use this district; ask for a corrected file."},
+    {"node", "a potential of the node is out of range", "do not use this district; ask for a corrected file."},
+    {"arc", "the potentials break the consistency rule at this arc",
+     "do not use this district; ask for a file whose potentials were computed for its present weights."},
+    {"line", "the line is no sound frame", "the file is damaged or cut short; load it again."},
+    {"line", "the line may not stand there, or a line is missing", "the file is not complete or has one query too many; load it again."},
+};
+
+/* Reads all of a stream into memory that the caller frees. Returns NULL where that fails, with errno set. */
+static uint8_t *read_all(FILE *in, size_t *length)
+{
+    size_t room = 65536, used = 0;
+    uint8_t *bytes = malloc(room);
+
+    while (bytes != NULL) {
+        used += fread(bytes + used, 1, room - used, in);
+        if (used < room) {
+            break;
+        }
+        uint8_t *larger = room > SIZE_MAX / 2 ? NULL : realloc(bytes, room * 2);
+        if (larger == NULL) {
+            free(bytes);
+            errno = ENOMEM;
+            return NULL;
+        }
+        bytes = larger;
+        room *= 2;
+    }
+    if (bytes != NULL && ferror(in)) {
+        free(bytes);
+        return NULL;
+    }
+    *length = used;
+    return bytes;
+}
+
+/* The number that `digits` upper-case hexadecimal digits give; the answer lines hold nothing else. */
+static uint32_t field(const uint8_t *at, size_t digits)
+{
+    uint32_t number = 0;
+
+    for (size_t i = 0; i < digits; i++) {
+        number = number * 16 + (uint32_t)(at[i] <= '9' ? at[i] - '0' : at[i] - 'A' + 10);
+    }
+    return number;
+}
+
+static void say_duration(uint32_t tenths)
+{
+    uint32_t seconds = tenths / 10;
+
+    printf("Route of %" PRIu32 " %s of a second (", tenths, tenths == 1 ? "tenth" : "tenths");
+    if (seconds >= 3600) {
+        printf("%" PRIu32 " h ", seconds / 3600);
+    }
+    if (seconds >= 60) {
+        printf("%" PRIu32 " min ", seconds / 60 % 60);
+    }
+    printf("%" PRIu32 ".%" PRIu32 " s)", seconds % 60, tenths % 10);
+}
+
+/* The figures of a search: turns, opened by each side, rejected, four digits each. */
+static void say_figures(const uint8_t *at)
+{
+    uint32_t turns = field(at, 4), opened = field(at + 4, 4);
+
+    printf("The search took %" PRIu32 " turn%s: %" PRIu32 " node%s opened from the start side, %" PRIu32
+           " from the end side, %" PRIu32 " rejected.\n",
+           turns, turns == 1 ? "" : "s", opened, opened == 1 ? "" : "s", field(at + 8, 4), field(at + 12, 4));
+}
+
+static void say_route(const uint8_t *line, const uint8_t *path)
+{
+    uint32_t nodes = field(line + 10, 4);
+
+    say_duration(field(line + 2, 8));
+    printf(" over %" PRIu32 " node%s: ", nodes, nodes == 1 ? "" : "s");
+    for (uint32_t i = 0; i < nodes; i++) {
+        printf("%s%" PRIu32, i == 0 ? "" : ", ", field(path + 2 + 4 * (size_t)i, 4));
+    }
+    printf(".\n");
+    say_figures(line + 14);
+}
+
+static void say_refusal(const uint8_t *line)
+{
+    uint32_t number = field(line + 2, 2);
+    const struct refusal *is = &refusals[number < sizeof refusals / sizeof refusals[0] ? number : 0];
+
+    printf("Refused, number %" PRIu32, number);
+    if (is->place != NULL) {
+        printf(" at %s %" PRIu32, is->place, field(line + 4, 8));
+    }
+    printf(": %s.\nWhat to do: %s\n", is->means, is->todo);
+}
+
+/* Says every line of the answer; returns whether one of them was a refusal. */
+static int say_answer(const uint8_t *answer, size_t length)
+{
+    const uint8_t *at = answer, *end = answer + length;
+    int refused = 0;
+
+    while (at < end) {
+        const uint8_t *next = (const uint8_t *)memchr(at, '\n', (size_t)(end - at)) + 1;
+        switch (field(at, 2)) {
+        case 0x81:
+            say_route(at, next);
+            next = (const uint8_t *)memchr(next, '\n', (size_t)(end - next)) + 1;
+            break;
+        case 0x80:
+            printf("No route leads from the start to the end.\n");
+            say_figures(at + 2);
+            break;
+        default:
+            say_refusal(at);
+            refused = 1;
+        }
+        at = next;
+    }
+    return refused;
+}
+
+int main(int argc, char **argv)
+{
+    static uint8_t room[DISPLAY_ROOM];
+    const char *name = argc == 2 ? argv[1] : "standard input";
+    size_t length = 0;
+
+    if (argc > 2) {
+        fprintf(stderr, "usage: display [FILE]\n");
+        return 2;
+    }
+    FILE *in = argc == 2 ? fopen(argv[1], "rb") : stdin;
+    uint8_t *file = in == NULL ? NULL : read_all(in, &length);
+    if (file == NULL) {
+        fprintf(stderr, "display: %s: %s\n", name, strerror(errno));
+        return 2;
+    }
+    size_t written = display_answer(file, length, room, sizeof room);
+    free(file);
+    if (written == 0) {
+        fprintf(stderr, "display: the answer does not fit in a room of %d bytes\n", DISPLAY_ROOM);
+        return 2;
+    }
+    return say_answer(room, written);
+}

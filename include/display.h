@@ -1,0 +1,63 @@
+/*
+ * display.h: the route answer of a district file, for the unit's display.
+ *
+ * One function. It reads the bytes of a district file with exactly one query and writes the answer lines into a room that
+ * the caller lends. What it does is proved for every file and every room; the archive libdisplay.a needs no other library.
+ *
+ * Compile and link:  cc -std=c99 -Iinclude display.c target/staticlib/libdisplay.a -o display
+ */
+#ifndef DISPLAY_H
+#define DISPLAY_H
+
+#include <stddef.h>
+#include <stdint.h>
+
+#ifdef __cplusplus
+extern "C" {
+#endif
+
+/*
+ * A room of this many bytes always suffices: the line of a route (31 bytes), the line of a path over 2,048 nodes (8,195)
+ * and the line of a file refusal that follows the answer (13).
+ */
+#define DISPLAY_ROOM (31 + 8195 + 13)
+
+/*
+ * The stack that the calling thread should have left for a call. A call took at most MEASURED bytes on x86-64 (measured over
+ * the test's files, the largest districts among them, and the same for all that reach a search: there is no recursion);
+ * this is about twice that, so that it stays true where a compiler lays things out otherwise.
+ */
+#define DISPLAY_STACK (256 * 1024)
+
+/*
+ * Answers the query of a district file.
+ *
+ *   file, file_len   the bytes of the file; they are read and not changed
+ *   room, room_len   where the answer goes
+ *
+ * The answer lines are, one after the other, each ended by a line feed (no 0 byte is added):
+ *   81.. and 82..    a route with its figures, and its path
+ *   80..             no route, with its figures
+ *   FF..             a refusal with its number and place; it may also follow the lines above, when the file goes on after
+ *                    its query with what may not stand there
+ *
+ * Returns the count of bytes written, which is at least 13. The bytes of the room beyond them are unchanged.
+ * Returns 0 if the lines do not fit; then the whole room is unchanged. A larger room gives the answer.
+ *
+ * The caller sees to it that
+ *   - file may be read for file_len bytes and room read and written for room_len bytes while the function runs;
+ *     a pointer may be NULL only where its length is 0;
+ *   - the two do not overlap, and no other thread writes either of them meanwhile;
+ *   - neither length is above PTRDIFF_MAX;
+ *   - the calling thread has DISPLAY_STACK bytes of stack left.
+ *
+ * Nothing is kept between calls and nothing global is used: calls from several threads, each with its own room, do not
+ * disturb each other. It allocates nothing, makes no system call and always returns.
+ */
+size_t display_answer(const uint8_t *file, size_t file_len, uint8_t *room, size_t room_len);
+
+#ifdef __cplusplus
+}
+#endif
+
+#endif

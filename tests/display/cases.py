@@ -1,0 +1,172 @@
+#!/usr/bin/env python3
+"""Writes the cases of the display's test into a folder.
+
+    cases.py FOLDER
+
+For each case NAME.in, and what is expected of it: NAME.routeline (the program) and NAME.display (the C entry). The answers
+of P1 to P12 and of most bad inputs are written here by hand, from document 01; the rest come from expected.py, which is
+written from document 01 too. Where both are there they must agree. FOLDER/names lists the cases in order."""
+import os
+import sys
+
+sys.path.insert(0, os.path.dirname(os.path.abspath(__file__)))
+from expected import answer  # noqa: E402
+
+ARCS5 = [(0, 1, 1), (1, 2, 1), (2, 3, 1), (0, 4, 2), (4, 3, 2)]
+
+
+def size(nodes, arcs):
+    return "01%04X%04X\n" % (nodes, arcs)
+
+
+def arc(u, v, w, kind="02"):
+    return "%s%04X%04X%08X\n" % (kind, u, v, w)
+
+
+def potentials(node, h=0, k=0):
+    return "03%04X%08X%08X\n" % (node, h % 2**32, k % 2**32)
+
+
+def query(start, end, pattern):
+    return "04%04X%04X%02X%s\n" % (start, end, len(pattern), pattern)
+
+
+def district5(*queries):
+    return size(5, 5) + "".join(arc(*a) for a in ARCS5) + "".join(potentials(v) for v in range(5)) + "".join(queries)
+
+
+def pair(weight=1, h=(0, 0), k=(0, 0), start=0, end=1, pattern="0"):
+    return size(2, 1) + arc(0, 1, weight) + potentials(0, h[0], k[0]) + potentials(1, h[1], k[1]) + query(start, end, pattern)
+
+
+P1 = "810000000300040005000200010002\n820000000100020003\n"
+P2 = "810000000300040005000000040001\n820000000100020003\n"
+P3 = "810000000000010000000000000000\n820002\n"
+P4 = "800001000100000000\n"
+LOW = -2_047_000_000
+
+
+# a route over one arc, pattern 0: the start is opened, the end is met and then rejected
+def over_one_arc(length):
+    return "81%08X00020002000100000001\n8200000001\n" % length
+
+
+D5 = district5(query(0, 3, "01"))
+TO_QUERY = district5()
+LINES = D5.splitlines(keepends=True)
+
+
+def long_road():
+    """2,048 nodes in a row, two-way: the longest path, and figures that fill their fields"""
+    n = 2048
+    text = size(n, 2 * (n - 1)) + "".join(arc(v, v + 1, 1_000_000, "05") for v in range(n - 1))
+    return text + "".join(potentials(v) for v in range(n)) + query(0, n - 1, "01")
+
+
+def full_arcs(count):
+    """two nodes and as many arcs as asked, the lightest last"""
+    text = size(2, count) + "".join(arc(i % 2, 1 - i % 2, 1_000_000 - i) for i in range(count))
+    return text + potentials(0) + potentials(1) + query(0, 1, "0") + query(1, 0, "10")
+
+
+# name, input, what `routeline` prints, what the display gets where that differs; None: expected.py says it
+CASES = [
+    ("P1", D5, P1, None),
+    ("P2", district5(query(0, 3, "1")), P2, None),
+    ("P3", district5(query(2, 2, "0")), P3, None),
+    ("P4", district5(query(3, 0, "01")), P4, None),
+    ("P5", pair(h=(1, 0)), over_one_arc(1), None),
+    ("P6", pair(h=(2, 0)), "FF0900000000\n", None),
+    ("P7", pair(weight=1_000_000), over_one_arc(1_000_000), None),
+    ("P8", pair(weight=1_000_001), "FF0700000000\n", None),
+    ("P9", pair(h=(LOW, LOW), k=(LOW, LOW)), over_one_arc(1), None),
+    ("P10", pair(h=(LOW - 1, LOW)), "FF0800000000\n", None),
+    ("P11", size(1, 0) + potentials(0) + query(0, 0, "0"), "810000000000010000000000000000\n820000\n", None),
+    ("P12", pair(start=2, pattern="2"), "FF0400000000\n", None),
+    ("P1 to P4 in one file", district5(query(0, 3, "01"), query(0, 3, "1"), query(2, 2, "0"), query(3, 0, "01")),
+     P1 + P2 + P3 + P4, P1 + "FF0B0000000D\n"),
+    ("a refused query does not stop it", district5(query(0, 5, "0"), query(0, 3, "2"), query(0, 3, "01")),
+     "FF0400000000\nFF0500000000\n" + P1, "FF0400000000\nFF0B0000000D\n"),
+    ("empty input", "", "FF0B00000001\n", None),
+    ("one byte", "0", "FF0A00000001\n", None),
+    ("one line feed", "\n", "FF0A00000001\n", None),
+    ("no last line feed", D5[:-1], "FF0A0000000C\n", None),
+    ("70,000 digits, no line feed", "0" * 70000, "FF0A00000001\n", None),
+    ("70,000 digits in a line after an answer", D5 + "0" * 70000 + "\n" + query(0, 3, "01"), P1 + "FF0A0000000D\n", None),
+    ("a NUL", D5[:-2] + "\0\n", "FF0A0000000C\n", None),
+    ("a carriage return", D5.replace("\n", "\r\n"), "FF0A00000001\n", None),
+    ("a byte above 127", D5[:-2] + "\u00b1\n", "FF0A0000000C\n", None),
+    ("a space", D5[:-2] + " \n", "FF0A0000000C\n", None),
+    ("digit a", D5.replace("0100050005", "010005000a"), "FF0A00000001\n", None),
+    ("digit A", size(10, 0) + "".join(potentials(v) for v in range(10)) + query(10, 0, "0"), "FF0400000000\n", None),
+    ("an empty line at the end", D5 + "\n", P1 + "FF0A0000000D\n", None),
+    ("a 01 twice", size(5, 5) + D5, "FF0B00000002\n", None),
+    ("a 01 after the arcs", "".join(LINES[:6]) + size(5, 5) + "".join(LINES[6:]), "FF0B00000007\n", None),
+    ("a 01 after a query", D5 + size(5, 5), P1 + "FF0B0000000D\n", None),
+    ("a 02 first", "".join(LINES[1:]), "FF0B00000001\n", None),
+    ("too few arcs", "".join(LINES[:5] + LINES[6:]), "FF0B00000006\n", None),
+    ("too many arcs", "".join(LINES[:6]) + arc(0, 1, 1) + "".join(LINES[6:]), "FF0B00000007\n", None),
+    ("a query before potentials", "".join(LINES[:6]) + query(0, 3, "01") + "".join(LINES[6:]), "FF0B00000007\n", None),
+    ("a query before the last potentials", "".join(LINES[:10]) + query(0, 3, "01"), "FF0B0000000B\n", None),
+    ("no query", TO_QUERY, "FF0B0000000C\n", None),
+    ("no potentials", "".join(LINES[:6]), "FF0B00000007\n", None),
+    ("potentials of another node", "".join(LINES[:7]) + potentials(2), "FF0B00000008\n", None),
+    ("potentials of a node twice", "".join(LINES[:7]) + potentials(0), "FF0B00000008\n", None),
+    ("potentials of one node too many", TO_QUERY + potentials(5), "FF0B0000000C\n", None),
+    ("a 05 where one arc is owed", size(2, 1) + arc(0, 1, 1, "05"), "FF0B00000002\n", None),
+    ("a 05 gives two arcs", size(2, 2) + arc(1, 0, 7, "05") + potentials(0) + potentials(1) + query(0, 1, "0"), over_one_arc(7), None),
+    ("0 nodes", size(0, 0), "FF0100000000\n", None),
+    ("2,049 nodes", size(2049, 0), "FF0100000000\n", None),
+    ("8,193 arcs", size(1, 8193), "FF0200000000\n", None),
+    ("2,049 nodes and 8,193 arcs", size(2049, 8193), "FF0100000000\n", None),
+    ("kind 80 in input", TO_QUERY + P4, "FF0A0000000C\n", None),
+    ("kind 81 in input", TO_QUERY + P1, "FF0A0000000C\n", None),
+    ("kind 82 in input", TO_QUERY + "820000\n", "FF0A0000000C\n", None),
+    ("kind FF in input", TO_QUERY + "FF0400000000\n", "FF0A0000000C\n", None),
+    ("kind 00 in input", "0000050005\n", "FF0A00000001\n", None),
+    ("a digit too many", "01000500050\n", "FF0A00000001\n", None),
+    ("a digit too few", "010005000\n", "FF0A00000001\n", None),
+    ("no pattern entry", district5(query(0, 3, "")), "FF0500000000\n", None),
+    ("64 pattern entries", district5(query(0, 3, "01" * 32)), P1, None),
+    ("65 pattern entries", district5(query(0, 3, "0" * 65)), "FF0500000000\n", None),
+    ("255 pattern entries", district5(query(0, 3, "0" * 255)), "FF0500000000\n", None),
+    ("an entry F", district5(query(0, 3, "0F")), "FF0500000000\n", None),
+    ("an entry fewer than stated", district5("040000000302" + "0\n"), "FF0A0000000C\n", None),
+    ("an entry more than stated", district5("0400000003FF" + "0" * 256 + "\n"), "FF0A0000000C\n", None),
+    ("a second query for the display", D5 + query(2, 2, "0"), P1 + P3, P1 + "FF0B0000000D\n"),
+    ("a second query line that is no frame", D5 + "04\n", P1 + "FF0A0000000D\n", None),
+    ("potentials at the other end of the range", pair(h=(-LOW, -LOW), k=(-LOW, -LOW)), over_one_arc(1), None),
+    ("a potential too large", pair(h=(0, 0), k=(0, -LOW + 1)), "FF0800000001\n", None),
+    ("consistency of k", pair(k=(0, 2)), "FF0900000000\n", None),
+    ("a tail that is no node", pair().replace("0200000001", "0200020001"), "FF0700000000\n", None),
+    ("2,048 nodes in a row", long_road(), None, None),
+    ("8,192 arcs", full_arcs(8192), None, None),
+]
+
+
+def main(folder):
+    os.makedirs(folder, exist_ok=True)
+    wrong, names = 0, []
+    cut = [("cut/%03d" % n, D5[:n], None, None) for n in range(len(D5))]
+    os.makedirs(os.path.join(folder, "cut"), exist_ok=True)
+    for number, (name, text, program, display) in enumerate(CASES + cut):
+        data = text.encode("latin-1")
+        says = answer(data), answer(data, display=True)
+        by_hand = program, display if display is not None else program
+        for said, hand in zip(says, by_hand):
+            if hand is not None and said != hand:
+                print("cases: %s: expected.py says\n%sand document 01\n%s" % (name, said, hand))
+                wrong += 1
+        base = os.path.join(folder, name if name.startswith("cut/") else "%02d" % number)
+        for ending, what in ((".in", data), (".routeline", says[0].encode()), (".display", says[1].encode())):
+            with open(base + ending, "wb") as out:
+                out.write(what)
+        if not name.startswith("cut/"):
+            names.append("%02d %s\n" % (number, name))
+    with open(os.path.join(folder, "names"), "w") as out:
+        out.writelines(names)
+    return 1 if wrong else 0
+
+
+if __name__ == "__main__":
+    sys.exit(main(sys.argv[1]))

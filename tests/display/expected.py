@@ -1,0 +1,186 @@
+#!/usr/bin/env python3
+"""The answer lines of a district file, written from document 01 alone.
+
+    expected.py [--display] < FILE
+
+Without --display: what `routeline` prints. With it: what the display gets, whose file may have one query only.
+It is made to be read beside document 01 and knows nothing of the proved code: labels are None where they are missing,
+a line is matched by a regular expression, and the search keeps its two sides in small dictionaries."""
+import re
+import sys
+
+MOST_NODES, MOST_ARCS, MOST_ENTRIES = 2048, 8192, 64
+MOST_WEIGHT, MOST_POTENTIAL = 1_000_000, 2_047_000_000
+LONGEST_LINE = 2 + 4 + 4 + 2 + 255
+LAST_LINE = 4_294_967_295
+FIXED = {"01": [4, 4], "02": [4, 4, 8], "05": [4, 4, 8], "03": [4, 8, 8]}
+
+
+class FileRefusal(Exception):
+    """A refusal that ends the file: 1, 2, 10 or 11."""
+
+
+def refusal(number, place):
+    return "FF%02X%08X\n" % (number, place)
+
+
+def signed(value):
+    return value - 2**32 if value >= 2**31 else value
+
+
+def frame(line):
+    """(kind, fields) of a sound frame, else None. The fields of a 04 are start, end and the list of entries."""
+    if len(line) > LONGEST_LINE or not re.fullmatch(rb"[0-9A-F]+", line):
+        return None
+    text = line.decode("ascii")
+    kind, rest = text[:2], text[2:]
+    if kind in FIXED:
+        if len(rest) != sum(FIXED[kind]):
+            return None
+        fields = []
+        for width in FIXED[kind]:
+            fields.append(int(rest[:width], 16))
+            rest = rest[width:]
+        return kind, fields
+    if kind == "04" and len(rest) >= 10 and len(rest) == 10 + int(rest[8:10], 16):
+        return kind, [int(rest[:4], 16), int(rest[4:8], 16), [int(d, 16) for d in rest[10:]]]
+    return None
+
+
+def first_refusal(nodes, arcs, h, k, start, end, pattern):
+    """The refusal table for a query of a file, in its order: (number, place), or None."""
+    if start >= nodes or end >= nodes:
+        return 4, 0
+    if not 1 <= len(pattern) <= MOST_ENTRIES or any(e not in (0, 1) for e in pattern):
+        return 5, 0
+    for a, (u, v, w) in enumerate(arcs):
+        if u >= nodes or v >= nodes or w > MOST_WEIGHT:
+            return 7, a
+    for v in range(nodes):
+        if abs(h[v]) > MOST_POTENTIAL or abs(k[v]) > MOST_POTENTIAL:
+            return 8, v
+    for a, (u, v, w) in enumerate(arcs):
+        if h[u] - h[v] > w or k[v] - k[u] > w:
+            return 9, a
+    return None
+
+
+def search(nodes, arcs, h, k, start, end, pattern):
+    """(length or None, path, turns, opened by the start side, by the end side, rejected)"""
+    if start == end:
+        return 0, [start], 0, 0, 0, 0
+    out, into = [[] for _ in range(nodes)], [[] for _ in range(nodes)]
+    for u, v, w in arcs:
+        out[u].append((v, w))
+        into[v].append((u, w))
+    sides = [
+        {"label": {start: 0}, "from": {}, "pot": h, "target": end, "floor": h[start], "arcs": out, "opened": 0},
+        {"label": {end: 0}, "from": {}, "pot": k, "target": start, "floor": k[end], "arcs": into, "opened": 0},
+    ]
+    undecided = set(range(nodes))
+    best, meeting, turns, rejected = None, None, 0, 0
+
+    def candidates(side):
+        return [(side["label"][v] + side["pot"][v], v) for v in side["label"] if v in undecided]
+
+    while candidates(sides[0]) and candidates(sides[1]):
+        turn = pattern[turns % len(pattern)]
+        own, other = sides[turn], sides[1 - turn]
+        _, u = min(candidates(own))
+        undecided.discard(u)
+        turns += 1
+        label = own["label"][u]
+        if best is not None and (
+            label + own["pot"][u] - own["pot"][own["target"]] >= best
+            or label + other["floor"] - other["pot"][u] >= best
+        ):
+            rejected += 1
+        else:
+            own["opened"] += 1
+            for v, w in own["arcs"][u]:
+                if v not in undecided:
+                    continue
+                if v not in own["label"] or label + w < own["label"][v]:
+                    own["label"][v] = label + w
+                    own["from"][v] = u
+                if v in other["label"] and (best is None or best > own["label"][v] + other["label"][v]):
+                    best, meeting = own["label"][v] + other["label"][v], v
+        left = candidates(own)
+        if left:
+            own["floor"] = min(left)[0]
+    figures = (turns, sides[0]["opened"], sides[1]["opened"], rejected)
+    if best is None:
+        return (None, []) + figures
+    path = [meeting]
+    while path[0] != start:
+        path.insert(0, sides[0]["from"][path[0]])
+    while path[-1] != end:
+        path.append(sides[1]["from"][path[-1]])
+    return (best, path) + figures
+
+
+def query_lines(nodes, arcs, h, k, start, end, pattern):
+    refused = first_refusal(nodes, arcs, h, k, start, end, pattern)
+    if refused:
+        return refusal(*refused)
+    length, path, *figures = search(nodes, arcs, h, k, start, end, pattern)
+    shown = "".join("%04X" % n for n in figures)
+    if length is None:
+        return "80" + shown + "\n"
+    return "81%08X%04X" % (length, len(path)) + shown + "\n" + "82" + "".join("%04X" % v for v in path) + "\n"
+
+
+def answer(data, display=False):
+    """The answer lines of a whole file, as text."""
+    printed, number = [], 1
+    size, arcs, h, k, queries = None, [], [], [], 0
+    try:
+        at = 0
+        while at < len(data):
+            end_of_line = data.find(b"\n", at)
+            line = data[at:] if end_of_line < 0 else data[at:end_of_line]
+            if number == LAST_LINE:
+                raise FileRefusal(11, number)
+            if end_of_line < 0:
+                raise FileRefusal(10, number)
+            at = end_of_line + 1
+            found = frame(line)
+            if found is None:
+                raise FileRefusal(10, number)
+            kind, fields = found
+            if size is None:
+                if kind != "01":
+                    raise FileRefusal(11, number)
+                if not 1 <= fields[0] <= MOST_NODES:
+                    raise FileRefusal(1, 0)
+                if fields[1] > MOST_ARCS:
+                    raise FileRefusal(2, 0)
+                size = fields
+            elif len(arcs) < size[1]:
+                given = [tuple(fields)] if kind == "02" else []
+                if kind == "05":
+                    u, v, w = fields
+                    given = [(u, v, w), (v, u, w)]
+                if not given or len(arcs) + len(given) > size[1]:
+                    raise FileRefusal(11, number)
+                arcs += given
+            elif len(h) < size[0]:
+                if kind != "03" or fields[0] != len(h):
+                    raise FileRefusal(11, number)
+                h.append(signed(fields[1]))
+                k.append(signed(fields[2]))
+            else:
+                if kind != "04" or (display and queries > 0):
+                    raise FileRefusal(11, number)
+                printed.append(query_lines(size[0], arcs, h, k, *fields))
+                queries += 1
+            number += 1
+        if queries == 0:
+            raise FileRefusal(11, number)
+    except FileRefusal as refused:
+        printed.append(refusal(*refused.args))
+    return "".join(printed)
+
+
+if __name__ == "__main__":
+    sys.stdout.write(answer(sys.stdin.buffer.read(), "--display" in sys.argv[1:]))
