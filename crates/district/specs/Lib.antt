@@ -7,3 +7,4 @@ pub mod FileLaws
 pub mod GatherLaws
 pub mod OneAnswer
 pub mod Cases
+pub mod PrintLaws

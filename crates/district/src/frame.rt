@@ -251,8 +251,9 @@ pub fn take_line(
 pub fn refuse_broken(reader: Reader, room: &mut [u8]) -> Taken
     ensures { λ r. ⌜ SteppedOver brokenLine reader r (now (room .entry)) (now (room .exit)) ⌝ }
 {
-    if reader.line == LAST_LINE {
+    let line = reader.line;
+    if line == LAST_LINE {
         return refuse(reader, Cause::MisplacedLine(LAST_LINE), room);
     }
-    refuse(reader, Cause::UnsoundLine(reader.line), room)
+    refuse(reader, Cause::UnsoundLine(line), room)
 }
