@@ -1,19 +1,19 @@
 -- Each public function's contract admits a single answer: whatever two runs on the same input return and leave in the lent
 -- lists, they are the same. Assumes nothing.
 use mathlib.Core.Path.{_≡_, sym, ap, _∙_}
-use mathlib.Core.Bool.{Bool}
+use mathlib.Core.Bool.{Bool, cond, _||_}
 use mathlib.Core.List.{List}
 use Prim.Native.Nat.{ℕ}
-use lib.IntN.{ℤ, pos}
-use lib.ListN.{length, take, drop, replicate, take-append-drop, length-replicate}
-use native.Mathlib.Omega.{arith}
-use Rattle.network.specs.Network.{mostNodes, mostArcs}
-use Rattle.frames.specs.Frame.{mostDigits}
+use lib.Dec.{eqb, ltb}
+use lib.ListN.{length, take, drop, take-append-drop}
+use Rattle.network.specs.declared.Verdict.the-variants.{Accepted}
+use Rattle.network.specs.Network.{network}
+use Rattle.network.specs.Refusal.{networkVerdict}
 use Rattle.frames.specs.Room.{Placed}
 use Rattle.district.specs.declared.Reader.{Reader}
 use Rattle.district.specs.declared.Taken.{Taken}
 use Rattle.district.specs.File.{File, Step, displayAnswer}
-use Rattle.district.specs.Reader.{Lists, lists, toldBy, fileOf, Counted, Roomy, Kept, Stepped, Ended, startReader}
+use Rattle.district.specs.Reader.{Lists, toldBy, fileOf, Reached, Stepped, Ended, startReader, ownVerdict}
 use Rattle.district.specs.ReaderLaws.{count-tails, count-forward, count-held}
 
 -- `start`
@@ -41,7 +41,7 @@ module _ (s : Step) (l : Lists) (room : List ℕ) (t u : Taken) (a b : Lists) (x
   same-held = sym (count-held (t .reader) a (p .kept)) ∙ (ap (λ (f : File). length (f .held)) same-file ∙ count-held (u .reader) b (q .kept))
 
   pub take-byte-one-answer : (t ≡ u) × (a ≡ b) × (x ≡ y)
-  unfolding fileOf toldBy
+  unfolding fileOf toldBy ownVerdict
   take-byte-one-answer =
       let line : t .reader .line ≡ u .reader .line = ap (λ (f : File). f .line) same-file in
       let single : t .reader .single ≡ u .reader .single = ap (λ (f : File). f .single) same-file in
@@ -55,7 +55,11 @@ module _ (s : Step) (l : Lists) (room : List ℕ) (t u : Taken) (a b : Lists) (x
       let heads : a .heads ≡ b .heads = same-list _ _ _ _ (l .heads) same-arcs-read (ap (λ (f : File). f .told .heads) same-file) (p .beyond .heads) (q .beyond .heads) in
       let weights : a .weights ≡ b .weights = same-list _ _ _ _ (l .weights) same-arcs-read (ap (λ (f : File). f .told .weights) same-file) (p .beyond .weights) (q .beyond .weights) in
       let forward : a .forward ≡ b .forward = same-list _ _ _ _ (l .forward) same-nodes-read (ap (λ (f : File). f .told .forward) same-file) (p .beyond .forward) (q .beyond .forward) in
-      let backward : a .backward ≡ b .backward = same-list _ _ _ _ (l .backward) same-nodes-read (ap (λ (f : File). f .told .backward) same-file) (p .beyond .backward) (q .beyond .backward) in (
+      let backward : a .backward ≡ b .backward = same-list _ _ _ _ (l .backward) same-nodes-read (ap (λ (f : File). f .told .backward) same-file) (p .beyond .backward) (q .beyond .backward) in
+      let own : ownVerdict (t .reader) (a .tails) (a .heads) (a .weights) (a .forward) (a .backward) ≡ ownVerdict (u .reader) (b .tails) (b .heads) (b .weights) (b .forward) (b .backward) = λ i.
+      cond (eqb (nodes i) 0 || ltb (same-nodes-read i) (nodes i)) Accepted
+      (networkVerdict (network (nodes i) (take (same-arcs-read i) (tails i)) (take (same-arcs-read i) (heads i)) (take (same-arcs-read i) (weights i))) (take (same-nodes-read i) (forward i)) (take (same-nodes-read i) (backward i))) in
+      let verdict : t .reader .verdict ≡ u .reader .verdict = p .kept .judged ∙ (own ∙ sym (q .kept .judged)) in (
         λ i. record {
           reader = record {
             line = line i;
@@ -66,6 +70,7 @@ module _ (s : Step) (l : Lists) (room : List ℕ) (t u : Taken) (a b : Lists) (x
             arcs = arcs i;
             «arcs_read» = same-arcs-read i;
             «nodes_read» = same-nodes-read i;
+            verdict = verdict i;
             asked = asked i;
           };
           written = written i;
@@ -74,27 +79,11 @@ module _ (s : Step) (l : Lists) (room : List ℕ) (t u : Taken) (a b : Lists) (x
         p .room-is .room-is ∙ sym (q .room-is .room-is),
       )
 
--- lists with just enough room
-abbrev enough : Lists
-enough = lists (replicate mostDigits 0) (replicate mostArcs 0) (replicate mostArcs 0) (replicate mostArcs 0) (replicate mostNodes (pos 0)) (replicate mostNodes (pos 0))
-
-roomy-enough : Roomy enough
-roomy-enough =
-    record {
-      for-line = omega (arith, length-replicate {A = ℕ} mostDigits 0);
-      for-tails = omega (arith, length-replicate {A = ℕ} mostArcs 0);
-      for-heads = omega (arith, length-replicate {A = ℕ} mostArcs 0);
-      for-weights = omega (arith, length-replicate {A = ℕ} mostArcs 0);
-      for-forward = omega (arith, length-replicate {A = ℤ} mostNodes (pos 0));
-      for-backward = omega (arith, length-replicate {A = ℤ} mostNodes (pos 0));
-    }
-
 -- `end_of_input`
-pub end-of-input-one-answer : (r : Reader) → Counted r → (room after after′ : List ℕ) (n n′ : ℕ) → Ended r room after n → Ended r room after′ n′ → (n ≡ n′) × (after ≡ after′)
-end-of-input-one-answer r c room after after′ n n′ p q =
-    let k : Kept r enough = record { counted = c; roomy = roomy-enough } in
-    let a = p .law enough k in
-    let b = q .law enough k in
+pub end-of-input-one-answer : (r : Reader) → Reached r → (room after after′ : List ℕ) (n n′ : ℕ) → Ended r room after n → Ended r room after′ n′ → (n ≡ n′) × (after ≡ after′)
+end-of-input-one-answer r left room after after′ n n′ p q =
+    let a = p .law (left .over) (left .kept) in
+    let b = q .law (left .over) (left .kept) in
     (a .count-is ∙ sym (b .count-is), a .room-is ∙ sym (b .room-is))
 
 -- `answer_file`

@@ -2,24 +2,28 @@
 -- path of the answer, and a line's pattern has at most 255 entries. Assumes nothing.
 use mathlib.Core.Path.{_≡_, refl, sym, ap, subst, _∙_}
 use mathlib.Core.Bool.{Bool, true, false, cond, _&&_}
-use mathlib.Core.List.{List, [], _++_}
-use Prim.Native.Nat.{ℕ, _≤_}
+use mathlib.Core.List.{List, [], _∷_, _++_}
+use Prim.Native.Nat.{ℕ, _≤_, _<_}
 use native.Mathlib.Nat.{le-refl}
 use native.Mathlib.Omega.{arith}
+use lib.IntN.{ℤ}
 use lib.ListN.{length, take, drop}
-use lib.Seq.{take-at, take-all}
+use lib.Seq.{take-at, take-all, length-take-le}
 use Rattle.network.specs.declared.Answer.{Answer}
 use Rattle.network.specs.declared.Answer.the-variants.{Route, NoRoute, Refused}
+use Rattle.network.specs.declared.Cause.{Cause}
 use Rattle.network.specs.declared.Verdict.{Verdict}
 use Rattle.network.specs.declared.Verdict.the-variants.{Accepted, Refused as Refusal}
 use Rattle.network.specs.CaseSplit.{by-lt}
-use Rattle.network.specs.Query.{Query}
-use Rattle.network.specs.Refusal.{queryVerdict}
+use Rattle.network.specs.Network.{Network, network, mostNodes, mostArcs}
+use Rattle.network.specs.Query.{Query, query}
+use Rattle.network.specs.Refusal.{firstRefusal, badNodeCount, badArcLists, badPotentialLists, listRows, listVerdict, tripVerdict, mapVerdict, queryVerdict}
+use Rattle.network.specs.RefusalLaws.{query-of-sound-lists, network-of-sound-lists}
 use Rattle.nba.specs.State.{State, present}
 use Rattle.nba.specs.Search.{endState}
-use Rattle.nba.specs.Result.{pathOf, answerAt, figuresAt, found, answered, answerTo}
+use Rattle.nba.specs.Result.{pathOf, answerAt, figuresAt, found, answerTo}
 use Rattle.search.specs.Tables.{atFront}
-use Rattle.search.specs.Promise.{Lists, lengths, shownPath, searched, Left, left, leftBy, queried}
+use Rattle.search.specs.Promise.{Lists, shownPath, searched, Left, left}
 use Rattle.frames.specs.Frame.{mostDigits, frameOf, patternDigits, entriesOf, patternOf}
 use Rattle.frames.specs.FrameCases.{too-long}
 use Rattle.frames.specs.LineSteps.{length-entries}
@@ -27,10 +31,11 @@ use Rattle.frames.specs.declared.Frame.{Frame}
 use Rattle.frames.specs.declared.Frame.the-variants.{Size, Arc, TwoWay, Potentials, Query as QueryFrame, Unsound}
 use Rattle.frames.specs.AnswerLines.{answerLine, pathLine, answerLines}
 use Rattle.frames.specs.Room.{laid, placed, counted, Laid, Placed}
-use borrow.Author.Tests.{le-leb}
+use borrow.Author.Tests.{eq-eqb, ne-eqb, le-ltb, le-leb}
 use Rattle.district.specs.declared.Reader.{Reader}
 use Rattle.district.specs.File.{workRoom, queryLines, queryOn, withQuery, wrong, taken, takeQuery}
-use Rattle.district.specs.Reader.{Lists as DistrictLists, toldBy, fileOf}
+use Rattle.district.specs.Reader.{Lists as DistrictLists, toldBy, fileOf, Counted, Roomy, Kept, AllRead, Known}
+use Rattle.district.specs.ReaderLaws.{with-all}
 
 -- the lines of what a search found, from the path list that it leaves
 front-lines : (q : Query) (st : State) (old : List ℕ) (t : Bool) (path : List ℕ) → path ≡ pathOf q st
@@ -49,20 +54,48 @@ searched-lines : (q : Query) (l : Lists) → answerLines (found q) (searched q l
 unfolding searched
 searched-lines q l = found-lines q (l .path)
 
--- what a query leaves in lists that have room is printed as the definition says
-pub left-lines : (q : Query) (l : Lists) (a : Answer) (after : Lists) → lengths l ≡ workRoom → left a after ≡ queried q l → answerLines a (after .path) ≡ queryLines q
-unfolding queried queryLines answerTo
-left-lines q l a after room e = go (queryVerdict q (lengths l)) refl e
-  where
-    go : (v : Verdict) → queryVerdict q (lengths l) ≡ v → left a after ≡ leftBy v q l → answerLines a (after .path) ≡ answerLines (answered (queryVerdict q workRoom) (found q)) (pathOf q (endState q))
-    go v p h = rw (← room, p) (by v h)
-      where
-        by : (v : Verdict) → left a after ≡ leftBy v q l → answerLines a (after .path) ≡ answerLines (answered v (found q)) (pathOf q (endState q))
-        by (Refusal c) h = let x : a ≡ Refused c = ap (λ (y : Left). y .answer) h in rw x
-        by Accepted h =
-            let x : a ≡ found q = ap (λ (y : Left). y .answer) h in
-            let p : after .path ≡ searched q l .path = ap (λ (y : Left). y .lists .path) h in
-            rw (x, p) (searched-lines q l)
+-- what the search of an accepted query leaves is printed as the definition says
+pub left-lines : (q : Query) (l : Lists) (a : Answer) (after : Lists) → queryVerdict q workRoom ≡ Accepted → left a after ≡ left (found q) (searched q l) → answerLines a (after .path) ≡ queryLines q
+unfolding queryLines answerTo
+left-lines q l a after e h =
+    let x : a ≡ found q = ap (λ (y : Left). y .answer) h in
+    let p : after .path ≡ searched q l .path = ap (λ (y : Left). y .lists .path) h in
+    rw (e, x, p) (searched-lines q l)
+
+-- a refused query prints its refusal
+pub refused-lines : (q : Query) (c : Cause) → queryVerdict q workRoom ≡ Refusal c → answerLines (Refused c) [] ≡ queryLines q
+unfolding queryLines answerTo
+refused-lines q c e = rw e
+
+-- ---- the verdict on a query, from the trip's and the network's own
+pub verdict-parts : {own : Verdict} {g : Network} {h k : List ℤ} → Known own g h k → (s e : ℕ) (p : List ℕ)
+    → firstRefusal (tripVerdict (g .nodes) s e p workRoom ∷ own ∷ []) ≡ queryVerdict (query g h k s e p) workRoom
+verdict-parts {own} {g} {h} {k} known s e p =
+    let map : own ≡ mapVerdict g h k = known .own-is ∙ network-of-sound-lists g h k (known .lists-sound) in
+    rw map (sym (query-of-sound-lists (query g h k s e p) workRoom (known .lists-sound)))
+
+-- lists as long as they are to be are sound
+lists-accepted : (g : Network) (h k : List ℤ) → 0 < g .nodes → g .nodes ≤ mostNodes → length (g .heads) ≡ length (g .tails) → length (g .weights) ≡ length (g .tails)
+    → length (g .tails) ≤ mostArcs → length h ≡ g .nodes → length k ≡ g .nodes → listVerdict g h k ≡ Accepted
+unfolding listVerdict listRows firstRefusal badNodeCount badArcLists badPotentialLists
+lists-accepted g h k some few heads weights fewer forward backward =
+    rw (ne-eqb (g .nodes) 0 (λ e. omega arith), le-ltb _ _ few, eq-eqb _ _ heads, eq-eqb _ _ weights, le-ltb _ _ fewer, eq-eqb _ _ forward, eq-eqb _ _ backward)
+
+-- a reader that has read its network carries its own verdict
+pub known-by : (r : Reader) (l : DistrictLists) → Kept r l → AllRead r
+    → Known (r .verdict) (network (r .nodes) (take (r .«arcs_read») (l .tails)) (take (r .«arcs_read») (l .heads)) (take (r .«arcs_read») (l .weights))) (take (r .«nodes_read») (l .forward)) (take (r .«nodes_read») (l .backward))
+known-by r l kept all =
+    let c : Counted r = kept .counted in
+    let y : Roomy l = kept .roomy in
+    let tails : length (take (r .«arcs_read») (l .tails)) ≡ r .«arcs_read» = length-take-le _ _ (omega arith) in
+    let heads : length (take (r .«arcs_read») (l .heads)) ≡ r .«arcs_read» = length-take-le _ _ (omega arith) in
+    let weights : length (take (r .«arcs_read») (l .weights)) ≡ r .«arcs_read» = length-take-le _ _ (omega arith) in
+    let forward : length (take (r .«nodes_read») (l .forward)) ≡ r .«nodes_read» = length-take-le _ _ (omega arith) in
+    let backward : length (take (r .«nodes_read») (l .backward)) ≡ r .«nodes_read» = length-take-le _ _ (omega arith) in
+    record {
+      lists-sound = lists-accepted _ _ _ (all .some) (c .few-nodes) (heads ∙ sym tails) (weights ∙ sym tails) (omega arith) (omega (arith, all .each)) (omega (arith, all .each));
+      own-is = kept .judged ∙ with-all r _ _ _ _ _ all;
+    }
 
 entries-short : (g : Frame) (ds : List ℕ) → length ds ≤ 255 → length (entriesOf g ds) ≤ 255
 entries-short (QueryFrame a b n) ds h = h

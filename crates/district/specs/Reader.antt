@@ -1,13 +1,16 @@
 -- What the code's reader and the lists that it is lent stand for, and what a step of the code promises: what the definition
 -- says of the file, and the printed bytes placed in the room. Definitions only; their laws are in ReaderLaws. Assumes nothing.
 use mathlib.Core.Path.{_≡_}
-use mathlib.Core.Bool.{Bool, true, false, not, _||_}
+use mathlib.Core.Bool.{Bool, true, false, cond, not, _||_}
 use mathlib.Core.List.{List}
 use Prim.Native.Nat.{ℕ, _+_, _*_, _≤_, _<_}
 use lib.Dec.{eqb, ltb}
 use lib.IntN.{ℤ}
 use lib.ListN.{length, take, drop}
-use Rattle.network.specs.Network.{mostNodes, mostArcs}
+use Rattle.network.specs.declared.Verdict.{Verdict}
+use Rattle.network.specs.declared.Verdict.the-variants.{Accepted}
+use Rattle.network.specs.Network.{Network, network, mostNodes, mostArcs}
+use Rattle.network.specs.Refusal.{listVerdict, networkVerdict}
 use Rattle.frames.specs.declared.Frame.{Frame}
 use Rattle.frames.specs.declared.Frame.the-variants.{Arc}
 use Rattle.frames.specs.Frame.{mostDigits}
@@ -55,8 +58,16 @@ pub record Counted (r : Reader) : Type 0 where
   pub nodes-within : r .«nodes_read» ≤ r .nodes
   pub few-nodes : r .nodes ≤ mostNodes
   pub size-first : r .nodes ≡ 0 → r .arcs ≡ 0
+  pub arcs-first : r .«arcs_read» < r .arcs → r .«nodes_read» ≡ 0
   -- the line so far is no longer than an input frame can be
   pub held-within : r .held ≤ mostDigits
+
+-- what the network itself is refused for (7, 8 or 9): it is known once the last potentials are read, and until then nothing
+-- speaks against it
+unfoldable pub ownVerdict : Reader → List ℕ → List ℕ → List ℕ → List ℤ → List ℤ → Verdict
+ownVerdict r tails heads weights forward backward =
+    cond (eqb (r .nodes) 0 || ltb (r .«nodes_read») (r .nodes)) Accepted
+    (networkVerdict (network (r .nodes) (take (r .«arcs_read») tails) (take (r .«arcs_read») heads) (take (r .«arcs_read») weights)) (take (r .«nodes_read») forward) (take (r .«nodes_read») backward))
 
 -- each list has room for the most entries that a file can give it
 pub record Roomy (l : Lists) : Type 0 where
@@ -71,6 +82,13 @@ pub record Roomy (l : Lists) : Type 0 where
 pub record Kept (r : Reader) (l : Lists) : Type 0 where
   pub counted : Counted r
   pub roomy : Roomy l
+  -- the reader carries its network's own verdict
+  pub judged : r .verdict ≡ ownVerdict r (l .tails) (l .heads) (l .weights) (l .forward) (l .backward)
+
+-- a reader that a step has left, with some lists
+pub record Reached (r : Reader) : Type 0 where
+  pub over : Lists
+  pub kept : Kept r over
 
 -- the reader of a file of which nothing is read; its first line has this number
 unfoldable pub startReader : Bool → ℕ → Reader
@@ -84,6 +102,7 @@ startReader single line =
       arcs = 0;
       «arcs_read» = 0;
       «nodes_read» = 0;
+      verdict = Accepted;
       asked = false;
     }
 
@@ -99,6 +118,23 @@ nextReader r =
       arcs = r .arcs;
       «arcs_read» = r .«arcs_read»;
       «nodes_read» = r .«nodes_read»;
+      verdict = r .verdict;
+      asked = r .asked;
+    }
+
+-- the reader with this verdict on its network
+unfoldable pub withVerdict : Reader → Verdict → Reader
+withVerdict r verdict =
+    record {
+      line = r .line;
+      held = r .held;
+      single = r .single;
+      going = r .going;
+      nodes = r .nodes;
+      arcs = r .arcs;
+      «arcs_read» = r .«arcs_read»;
+      «nodes_read» = r .«nodes_read»;
+      verdict = verdict;
       asked = r .asked;
     }
 
@@ -129,8 +165,8 @@ pub record SteppedArcs (s : File → Step) (r : Reader) (t : Taken) (tails heads
       → Stepped (s (fileOf r (lists line tails heads weights h k))) t (lists line tails heads weights h k) (lists line tails′ heads′ weights′ h k) room room-after
 
 -- the same of a step that changes the potential lists only
-pub record SteppedPotentials (s : File → Step) (r : Reader) (t : Taken) (h k h′ k′ : List ℤ) (room room-after : List ℕ) : Type 0 where
-  pub law : (line tails heads weights : List ℕ) → Kept r (lists line tails heads weights h k)
+pub record SteppedPotentials (s : File → Step) (r : Reader) (t : Taken) (tails heads weights : List ℕ) (h k h′ k′ : List ℤ) (room room-after : List ℕ) : Type 0 where
+  pub law : (line : List ℕ) → Kept r (lists line tails heads weights h k)
       → Stepped (s (fileOf r (lists line tails heads weights h k))) t (lists line tails heads weights h k) (lists line tails heads weights h′ k′) room room-after
 
 -- a further line can be counted
@@ -147,12 +183,35 @@ pub record ArcsOpen (r : Reader) (tails heads weights : List ℕ) : Type 0 where
   pub for-weights : mostArcs ≤ length weights
 
 -- a node's potentials can be taken
-pub record PotentialsOpen (r : Reader) (forward backward : List ℤ) : Type 0 where
+pub record PotentialsOpen (r : Reader) (tails heads weights : List ℕ) (forward backward : List ℤ) : Type 0 where
   pub not-last : r .line < lastLine
+  pub arcs-read : r .arcs ≤ r .«arcs_read»
   pub owed : r .«nodes_read» < r .nodes
   pub few : r .nodes ≤ mostNodes
+  pub in-tails : r .«arcs_read» ≤ length tails
+  pub in-heads : r .«arcs_read» ≤ length heads
+  pub in-weights : r .«arcs_read» ≤ length weights
   pub for-forward : mostNodes ≤ length forward
   pub for-backward : mostNodes ≤ length backward
+
+-- as many entries of each list as the reader counts are there, and at least one node's
+pub record Read (r : Reader) (tails heads weights : List ℕ) (forward backward : List ℤ) : Type 0 where
+  pub some : 0 < r .nodes
+  pub in-tails : r .«arcs_read» ≤ length tails
+  pub in-heads : r .«arcs_read» ≤ length heads
+  pub in-weights : r .«arcs_read» ≤ length weights
+  pub in-forward : r .«nodes_read» ≤ length forward
+  pub in-backward : r .«nodes_read» ≤ length backward
+
+-- the network and all potentials are read
+pub record AllRead (r : Reader) : Type 0 where
+  pub some : 0 < r .nodes
+  pub each : r .nodes ≤ r .«nodes_read»
+
+-- a verdict is the own verdict of a network with sound lists
+pub record Known (own : Verdict) (g : Network) (h k : List ℤ) : Type 0 where
+  pub lists-sound : listVerdict g h k ≡ Accepted
+  pub own-is : own ≡ networkVerdict g h k
 
 -- a frame is not of kind 02
 pub record NoArc (g : Frame) : Type 0 where

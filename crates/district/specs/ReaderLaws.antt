@@ -3,13 +3,16 @@
 use mathlib.Core.Path.{_≡_, refl, subst}
 use mathlib.Core.Bool.{Bool, true, false}
 use mathlib.Core.List.{List, []}
-use Prim.Native.Nat.{ℕ, _≤_, _<_}
+use Prim.Native.Nat.{ℕ, zero, suc, _≤_, _<_}
 use native.Mathlib.Omega.{arith}
 use lib.IntN.{ℤ}
 use lib.ListN.{length, take}
 use lib.Seq.{length-take-le}
 use borrow.Author.Tests.{eq-eqb, ne-eqb, lt-ltb, le-ltb}
 use Rattle.network.specs.declared.Cause.the-variants.{MisplacedLine}
+use Rattle.network.specs.declared.Verdict.the-variants.{Accepted}
+use Rattle.network.specs.Network.{network}
+use Rattle.network.specs.Refusal.{networkVerdict}
 use Rattle.frames.specs.declared.Frame.{Frame}
 use Rattle.frames.specs.Frame.{mostDigits, frameOf}
 use Rattle.frames.specs.AnswerLines.{lineFeed}
@@ -17,7 +20,7 @@ use Rattle.frames.specs.RoomLaws.{nothing-placed}
 use Rattle.district.specs.declared.Reader.{Reader}
 use Rattle.district.specs.declared.Taken.{Taken}
 use Rattle.district.specs.File.{File, Step, step, beginning, lastLine, refused, takeSize, takeArcs, takePotentials, takeQuery, takeFrame, takeLine, brokenLine, holding, takeByte, owing, endOfInput}
-use Rattle.district.specs.Reader.{Lists, lists, toldBy, fileOf, Counted, Roomy, Kept, Beyond, Stepped, SteppedOver, SteppedArcs, SteppedPotentials, startReader, owesBy}
+use Rattle.district.specs.Reader.{Lists, lists, toldBy, fileOf, Counted, Roomy, Kept, Beyond, Stepped, SteppedOver, SteppedArcs, SteppedPotentials, NotLast, PotentialsOpen, AllRead, startReader, ownVerdict, owesBy}
 
 -- ---- the beginning
 pub start-file : (single : Bool) (line : ℕ) (l : Lists) → fileOf (startReader single line) l ≡ beginning single line
@@ -33,11 +36,34 @@ start-counted single line =
       nodes-within = omega arith;
       few-nodes = omega arith;
       size-first = λ h. refl;
+      arcs-first = λ h. refl;
       held-within = omega arith;
     }
 
 pub start-kept : (single : Bool) (line : ℕ) (l : Lists) → Roomy l → Kept (startReader single line) l
-start-kept single line l h = record { counted = start-counted single line; roomy = h }
+unfolding startReader ownVerdict
+start-kept single line l h = record { counted = start-counted single line; roomy = h; judged = refl }
+
+-- ---- the network's own verdict
+pub positive : (n : ℕ) → (n ≡ 0 → ⊥) → 0 < n
+positive zero h = absurd (h refl)
+positive (suc n) h = omega arith
+
+module _ (r : Reader) (tails heads weights : List ℕ) (forward backward : List ℤ) where
+  -- nothing speaks against it while the 01 or a potential is owed
+  pub without-size : r .nodes ≡ 0 → ownVerdict r tails heads weights forward backward ≡ Accepted
+  unfolding ownVerdict
+  without-size none = rw (eq-eqb _ _ none)
+
+  pub without-potentials : r .«nodes_read» < r .nodes → ownVerdict r tails heads weights forward backward ≡ Accepted
+  unfolding ownVerdict
+  without-potentials owed = rw (ne-eqb (r .nodes) 0 (λ e. omega arith), lt-ltb _ _ owed)
+
+  -- with the last potentials it is what the table says of the network
+  pub with-all : AllRead r → ownVerdict r tails heads weights forward backward
+      ≡ networkVerdict (network (r .nodes) (take (r .«arcs_read») tails) (take (r .«arcs_read») heads) (take (r .«arcs_read») weights)) (take (r .«nodes_read») forward) (take (r .«nodes_read») backward)
+  unfolding ownVerdict
+  with-all all = rw (ne-eqb (r .nodes) 0 (λ e. omega (arith, all .some)), le-ltb _ _ (all .each))
 
 -- ---- steps that change no list
 pub beyond-same : (r : Reader) (l : Lists) → Beyond r l l
@@ -55,9 +81,9 @@ pub over-arcs : {s : File → Step} {r : Reader} {t : Taken} {room room′ : Lis
     → SteppedArcs s r t tails heads weights tails heads weights room room′
 over-arcs tails heads weights h = record { law = λ line f b k. h .law (lists line tails heads weights f b) k }
 
-pub over-potentials : {s : File → Step} {r : Reader} {t : Taken} {room room′ : List ℕ} (f b : List ℤ) → SteppedOver s r t room room′
-    → SteppedPotentials s r t f b f b room room′
-over-potentials f b h = record { law = λ line tails heads weights k. h .law (lists line tails heads weights f b) k }
+pub over-potentials : {s : File → Step} {r : Reader} {t : Taken} {room room′ : List ℕ} (tails heads weights : List ℕ) (f b : List ℤ) → SteppedOver s r t room room′
+    → SteppedPotentials s r t tails heads weights f b f b room room′
+over-potentials tails heads weights f b h = record { law = λ line k. h .law (lists line tails heads weights f b) k }
 
 -- ---- counts
 module _ (r : Reader) (l : Lists) (k : Kept r l) where
@@ -79,6 +105,24 @@ module _ (r : Reader) (l : Lists) (k : Kept r l) where
   owing-by = rw (count-tails, count-forward)
 
 -- ---- which step is taken
+-- where potentials are owed, they can be taken
+pub potentials-open : (r : Reader) (l : Lists) → Kept r l → NotLast r → r .arcs ≤ r .«arcs_read» → r .«nodes_read» < r .nodes
+    → PotentialsOpen r (l .tails) (l .heads) (l .weights) (l .forward) (l .backward)
+potentials-open r l k not-last all owed =
+    let c : Counted r = k .counted in
+    let y : Roomy l = k .roomy in
+    record {
+      not-last = not-last;
+      arcs-read = all;
+      owed = owed;
+      few = c .few-nodes;
+      in-tails = omega arith;
+      in-heads = omega arith;
+      in-weights = omega arith;
+      for-forward = y .for-forward;
+      for-backward = y .for-backward;
+    }
+
 module _ (r : Reader) (l : Lists) (k : Kept r l) (g : Frame) where
   pub where-size-owed : r .nodes ≡ 0 → takeSize (fileOf r l) g ≡ takeFrame (fileOf r l) g
   unfolding takeFrame fileOf toldBy

@@ -10,6 +10,7 @@ use lib.IntN.{ℤ}
 use lib.ListN.{length, take, drop, set, length-set}
 use lib.Seq.{take-suc-set, drop-set-lt}
 use borrow.Author.Tests.{eq-eqb, ne-eqb, lt-ltb, le-ltb, le-leb, lt-leb}
+use Rattle.network.specs.declared.Verdict.{Verdict}
 use Rattle.network.specs.Network.{mostNodes, mostArcs}
 use Rattle.frames.specs.declared.Frame.{Frame}
 use Rattle.frames.specs.declared.Frame.the-variants.{Size, Potentials}
@@ -18,8 +19,8 @@ use Rattle.frames.specs.Room.{Placed}
 use Rattle.frames.specs.RoomLaws.{nothing-placed}
 use Rattle.district.specs.declared.Reader.{Reader}
 use Rattle.district.specs.File.{GivenArc, addedArcs, wrong, taken, takeSize, takeArcs, takePotentials, withQuery, step, holding}
-use Rattle.district.specs.Reader.{Lists, lists, toldBy, fileOf, Counted, Roomy, Kept, Stepped, SteppedOver, SteppedArcs, SteppedPotentials, nextReader}
-use Rattle.district.specs.ReaderLaws.{beyond-same, count-tails, count-forward}
+use Rattle.district.specs.Reader.{Lists, lists, toldBy, fileOf, Counted, Roomy, Kept, Stepped, SteppedOver, SteppedArcs, SteppedPotentials, PotentialsOpen, Read, nextReader, ownVerdict, withVerdict}
+use Rattle.district.specs.ReaderLaws.{positive, without-size, without-potentials, beyond-same, count-tails, count-forward}
 
 -- ---- lists that grow
 -- n entries of a list were counted; with `more` after them, m entries further, nothing beyond has changed
@@ -64,6 +65,7 @@ sized r n m =
       arcs = m;
       «arcs_read» = r .«arcs_read»;
       «nodes_read» = r .«nodes_read»;
+      verdict = r .verdict;
       asked = r .asked;
     }
 
@@ -89,9 +91,13 @@ size-taken r next n m room e none some few fewer =
                         nodes-within = omega arith;
                         few-nodes = few;
                         size-first = λ z. absurd (some z);
+                        arcs-first = λ h. omega arith;
                         held-within = omega arith;
                       };
                   roomy = k .roomy;
+                  judged =
+                      k .judged ∙ (without-size r _ _ _ _ _ none
+                      ∙ sym (without-potentials (sized (nextReader r) n m) _ _ _ _ _ (omega (arith, positive n some))));
                 };
           });
     }
@@ -108,8 +114,13 @@ with-arcs r n =
       arcs = r .arcs;
       «arcs_read» = n;
       «nodes_read» = r .«nodes_read»;
+      verdict = r .verdict;
       asked = r .asked;
     }
+
+-- where an arc is owed the 01 was read
+sized-before-arcs : (r : Reader) → Counted r → 0 < r .arcs → 0 < r .nodes
+sized-before-arcs r c h = positive (r .nodes) (λ none. let no-arcs : r .arcs ≡ 0 = c .size-first none in omega arith)
 
 -- a frame that adds m arcs, as many as are owed or fewer
 pub arcs-taken : (r next : Reader) (g : Frame) (m : ℕ) {tails heads weights tails′ heads′ weights′ : List ℕ} (room : List ℕ)
@@ -129,6 +140,7 @@ arcs-taken r next g m {tails} {heads} {weights} {tails′} {heads′} {weights�
           let c : Counted r = k .counted in
           let y : Roomy l = k .roomy in
           let any : 0 < length (addedArcs g) = omega arith in
+          let unread : r .«nodes_read» < r .nodes = omega (arith, c .arcs-first (omega arith), sized-before-arcs r c (omega arith)) in
           let fit : length (addedArcs g) ≤ r .arcs - length (toldBy r l .tails) = omega (arith, count-tails r l k) in
           rw (lt-ltb _ _ any, le-leb _ _ fit, e)
           (record {
@@ -144,6 +156,7 @@ arcs-taken r next g m {tails} {heads} {weights} {tails′} {heads′} {weights�
                         nodes-within = omega arith;
                         few-nodes = omega arith;
                         size-first = c .size-first;
+                        arcs-first = λ h. c .arcs-first (omega arith);
                         held-within = omega arith;
                       };
                   roomy =
@@ -155,6 +168,9 @@ arcs-taken r next g m {tails} {heads} {weights} {tails′} {heads′} {weights�
                         for-forward = y .for-forward;
                         for-backward = y .for-backward;
                       };
+                  judged =
+                      k .judged ∙ (without-potentials r _ _ _ _ _ unread
+                      ∙ sym (without-potentials (with-arcs (nextReader r) (r .«arcs_read» + m)) _ _ _ _ _ unread));
                 };
           });
     }
@@ -171,20 +187,42 @@ with-nodes r n =
       arcs = r .arcs;
       «arcs_read» = r .«arcs_read»;
       «nodes_read» = n;
+      verdict = r .verdict;
       asked = r .asked;
     }
 
-pub potentials-taken : (r next : Reader) (v : ℕ) (h k : ℤ) {forward backward forward′ backward′ : List ℤ} (room : List ℕ)
+-- with a node's potentials put, as many entries as are counted are still there
+pub read-next : (r next : Reader) (tails heads weights : List ℕ) (forward backward forward′ backward′ : List ℤ)
+    → next ≡ nextReader r
+    → PotentialsOpen r tails heads weights forward backward
+    → length forward′ ≡ length forward
+    → length backward′ ≡ length backward
+    → Read (with-nodes next (r .«nodes_read» + 1)) tails heads weights forward′ backward′
+unfolding nextReader
+read-next r next tails heads weights forward backward forward′ backward′ e owing f b =
+    rw e
+    (record {
+      some = omega (arith, owing .owed);
+      in-tails = owing .in-tails;
+      in-heads = owing .in-heads;
+      in-weights = owing .in-weights;
+      in-forward = omega (arith, f, owing .owed, owing .few, owing .for-forward);
+      in-backward = omega (arith, b, owing .owed, owing .few, owing .for-backward);
+    })
+
+pub potentials-taken : (r next : Reader) (v : ℕ) (h k : ℤ) (own : Verdict) {tails heads weights : List ℕ} {forward backward forward′ backward′ : List ℤ} (room : List ℕ)
     → next ≡ nextReader r
     → v ≡ r .«nodes_read»
+    → r .arcs ≤ r .«arcs_read»
     → r .«nodes_read» < r .nodes
     → Grown forward forward′ (r .«nodes_read») 1 (h ∷ [])
     → Grown backward backward′ (r .«nodes_read») 1 (k ∷ [])
-    → SteppedPotentials (λ f. takePotentials f (Potentials v h k)) r (record { reader = with-nodes next (r .«nodes_read» + 1); written = 0 }) forward backward forward′ backward′ room room
-unfolding takePotentials taken fileOf toldBy nextReader
-potentials-taken r next v h k {forward} {backward} {forward′} {backward′} room e same owed p q =
+    → own ≡ ownVerdict (with-nodes next (r .«nodes_read» + 1)) tails heads weights forward′ backward′
+    → SteppedPotentials (λ f. takePotentials f (Potentials v h k)) r (record { reader = withVerdict (with-nodes next (r .«nodes_read» + 1)) own; written = 0 }) tails heads weights forward backward forward′ backward′ room room
+unfolding takePotentials taken fileOf toldBy nextReader ownVerdict withVerdict
+potentials-taken r next v h k own {tails} {heads} {weights} {forward} {backward} {forward′} {backward′} room e same all owed p q judged =
     record {
-      law = λ line tails heads weights kept.
+      law = λ line kept.
           let l : Lists = lists line tails heads weights forward backward in
           let c : Counted r = kept .counted in
           let y : Roomy l = kept .roomy in
@@ -203,6 +241,7 @@ potentials-taken r next v h k {forward} {backward} {forward′} {backward′} ro
                         nodes-within = omega arith;
                         few-nodes = omega arith;
                         size-first = c .size-first;
+                        arcs-first = λ h. absurd (omega arith);
                         held-within = omega arith;
                       };
                   roomy =
@@ -214,6 +253,7 @@ potentials-taken r next v h k {forward} {backward} {forward′} {backward′} ro
                         for-forward = omega (arith, p .size, y .for-forward);
                         for-backward = omega (arith, q .size, y .for-backward);
                       };
+                  judged = judged ∙ ap (λ (x : Reader). ownVerdict (with-nodes x (r .«nodes_read» + 1)) tails heads weights forward′ backward′) e;
                 };
           });
     }
@@ -230,12 +270,13 @@ with-query r =
       arcs = r .arcs;
       «arcs_read» = r .«arcs_read»;
       «nodes_read» = r .«nodes_read»;
+      verdict = r .verdict;
       asked = true;
     }
 
 pub query-taken : (r next : Reader) (l : Lists) (printed room after : List ℕ) (written : ℕ) → next ≡ nextReader r → Kept r l → Placed printed room after written
     → Stepped (taken (fileOf r l) (withQuery (toldBy r l)) printed) (record { reader = with-query next; written = written }) l l room after
-unfolding taken fileOf toldBy nextReader
+unfolding taken fileOf toldBy nextReader ownVerdict
 query-taken r next l printed room after written e k p =
     let c : Counted r = k .counted in
     rw e
@@ -252,9 +293,11 @@ query-taken r next l printed room after written e k p =
                   nodes-within = omega arith;
                   few-nodes = omega arith;
                   size-first = c .size-first;
+                  arcs-first = c .arcs-first;
                   held-within = omega arith;
                 };
             roomy = k .roomy;
+            judged = k .judged;
           };
     })
 
@@ -270,6 +313,7 @@ with-held r n =
       arcs = r .arcs;
       «arcs_read» = r .«arcs_read»;
       «nodes_read» = r .«nodes_read»;
+      verdict = r .verdict;
       asked = r .asked;
     }
 
@@ -278,7 +322,7 @@ pub byte-held : (r : Reader) (b : ℕ) (line line′ tails heads weights : List 
     → r .held < mostDigits
     → Grown line line′ (r .held) 1 (b ∷ [])
     → Stepped (step (holding (fileOf r (lists line tails heads weights f k)) b) []) (record { reader = with-held r (r .held + 1); written = 0 }) (lists line tails heads weights f k) (lists line′ tails heads weights f k) room room
-unfolding fileOf toldBy
+unfolding fileOf toldBy ownVerdict
 byte-held r b line line′ tails heads weights f k room kept short grown =
     let c : Counted r = kept .counted in
     let y : Roomy (lists line tails heads weights f k) = kept .roomy in
@@ -295,6 +339,7 @@ byte-held r b line line′ tails heads weights f k room kept short grown =
                   nodes-within = omega arith;
                   few-nodes = omega arith;
                   size-first = c .size-first;
+                  arcs-first = c .arcs-first;
                   held-within = omega arith;
                 };
             roomy =
@@ -306,6 +351,7 @@ byte-held r b line line′ tails heads weights f k room kept short grown =
                   for-forward = y .for-forward;
                   for-backward = y .for-backward;
                 };
+            judged = kept .judged;
           };
     }
 

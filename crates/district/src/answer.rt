@@ -2,20 +2,47 @@
 // behind but its lines.
 ghost use mathlib.Core.Path.{_≡_};
 ghost use mathlib.Core.Bool.{_&&_};
+ghost use mathlib.Core.List.{[], _∷_};
 ghost use Rattle.network.specs.Network.{network};
 ghost use Rattle.network.specs.Query.{query};
+ghost use Rattle.network.specs.Refusal.{firstRefusal, tripVerdict, queryVerdict};
 ghost use Rattle.frames.specs.Frame.{patternOf};
 ghost use Rattle.frames.specs.Room.{Placed};
-ghost use Rattle.district.specs.File.{queryLines, takeQuery};
-ghost use Rattle.district.specs.Reader.{lists, fileOf, Kept, Stepped, NotLast};
+ghost use Rattle.district.specs.File.{workRoom, queryLines, takeQuery};
+ghost use Rattle.district.specs.Reader.{lists, fileOf, Kept, Stepped, NotLast, AllRead, Known};
+use crate::MOST_NODES;
 use crate::Reader;
 use crate::Taken;
 use crate::frame;
 use frames::Frame;
+use network::Lent;
+use network::Verdict;
 
-// The lines of a query's answer. The work lists and the path list have room for the most nodes, so no query is refused for
-// its room.
-fn write_lines(
+// A line's pattern has at most as many entries as two digits can count.
+const MOST_ENTRIES: usize = 255;
+
+// What a query is answered before any search: 4 or 5 from its trip, and then what the network itself is refused for, which was
+// found when its last potentials were read. The work lists have room for the most nodes, so no query is refused for its room.
+fn verdict_on(own: Verdict, nodes: u16, start: u16, end: u16, pattern: &[u8]) -> Verdict
+    ensures { λ r. ⌜ r ≡ firstRefusal (tripVerdict nodes start end (now (pattern .entry)) workRoom ∷ own ∷ []) ⌝ }
+{
+    let lent = Lent {
+        start_labels: MOST_NODES,
+        start_neighbours: MOST_NODES,
+        end_labels: MOST_NODES,
+        end_neighbours: MOST_NODES,
+        states: MOST_NODES,
+        path: MOST_NODES,
+    };
+    let trip = network::check_trip(nodes, start, end, pattern, lent);
+    let Verdict::Accepted = trip else {
+        return trip;
+    };
+    own
+}
+
+// The lines of an accepted query's answer: it is searched.
+fn write_found(
     nodes: u16,
     tails: &[u16],
     heads: &[u16],
@@ -27,15 +54,16 @@ fn write_lines(
     pattern: &[u8],
     room: &mut [u8],
 ) -> usize
+    requires { ⌜ queryVerdict (query (network nodes (now tails) (now heads) (now weights)) (now forward) (now backward) start end (now pattern)) workRoom ≡ Verdict.Accepted ⌝ }
     ensures { λ r. ⌜ Placed (queryLines (query (network nodes (now (tails .entry)) (now (heads .entry)) (now (weights .entry))) (now (forward .entry)) (now (backward .entry)) start end (now (pattern .entry)))) (now (room .entry)) (now (room .exit)) r ⌝ }
 {
-    let mut start_labels = [0u32; 2048];
-    let mut start_neighbours = [0u16; 2048];
-    let mut end_labels = [0u32; 2048];
-    let mut end_neighbours = [0u16; 2048];
-    let mut states = [0u8; 2048];
-    let mut path = [0u16; 2048];
-    let answer = search::query(
+    let mut start_labels = [0u32; MOST_NODES];
+    let mut start_neighbours = [0u16; MOST_NODES];
+    let mut end_labels = [0u32; MOST_NODES];
+    let mut end_neighbours = [0u16; MOST_NODES];
+    let mut states = [0u8; MOST_NODES];
+    let mut path = [0u16; MOST_NODES];
+    let answer = search::search_accepted(
         nodes,
         tails,
         heads,
@@ -55,8 +83,44 @@ fn write_lines(
     frames::write_answer(room, answer, &path)
 }
 
-// The same for the pattern that a query's line spells, which has at most 255 entries.
+// The lines of a query's answer, on a network whose own verdict is known.
+fn write_lines(
+    own: Verdict,
+    nodes: u16,
+    tails: &[u16],
+    heads: &[u16],
+    weights: &[u32],
+    forward: &[i32],
+    backward: &[i32],
+    start: u16,
+    end: u16,
+    pattern: &[u8],
+    room: &mut [u8],
+) -> usize
+    requires { ⌜ Known own (network nodes (now tails) (now heads) (now weights)) (now forward) (now backward) ⌝ }
+    ensures { λ r. ⌜ Placed (queryLines (query (network nodes (now (tails .entry)) (now (heads .entry)) (now (weights .entry))) (now (forward .entry)) (now (backward .entry)) start end (now (pattern .entry)))) (now (room .entry)) (now (room .exit)) r ⌝ }
+{
+    let verdict = verdict_on(own, nodes, start, end, pattern);
+    if let Verdict::Refused(cause) = verdict {
+        return frame::write_refusal(cause, room);
+    }
+    write_found(
+        nodes,
+        tails,
+        heads,
+        weights,
+        forward,
+        backward,
+        start,
+        end,
+        pattern,
+        room,
+    )
+}
+
+// The same for the pattern that a query's line spells.
 fn answer_query(
+    own: Verdict,
     nodes: u16,
     tails: &[u16],
     heads: &[u16],
@@ -68,11 +132,13 @@ fn answer_query(
     line: &[u8],
     room: &mut [u8],
 ) -> usize
+    requires { ⌜ Known own (network nodes (now tails) (now heads) (now weights)) (now forward) (now backward) ⌝ }
     ensures { λ r. ⌜ Placed (queryLines (query (network nodes (now (tails .entry)) (now (heads .entry)) (now (weights .entry))) (now (forward .entry)) (now (backward .entry)) start end (patternOf (now (line .entry))))) (now (room .entry)) (now (room .exit)) r ⌝ }
 {
-    let mut entries = [0u8; 255];
+    let mut entries = [0u8; MOST_ENTRIES];
     let n = frames::pattern(line, &mut entries);
     write_lines(
+        own,
         nodes,
         tails,
         heads,
@@ -109,6 +175,7 @@ pub fn take_query(
     room: &mut [u8],
 ) -> Taken
     requires { ⌜ NotLast reader ⌝ }
+    requires { ⌜ AllRead reader ⌝ }
     requires { ⌜ Kept reader (lists (now line) (now tails) (now heads) (now weights) (now forward) (now backward)) ⌝ }
     ensures { λ r. ⌜ Stepped (takeQuery (fileOf reader (lists (now (line .entry)) (now (tails .entry)) (now (heads .entry)) (now (weights .entry)) (now (forward .entry)) (now (backward .entry)))) frame) r (lists (now (line .entry)) (now (tails .entry)) (now (heads .entry)) (now (weights .entry)) (now (forward .entry)) (now (backward .entry))) (lists (now (line .entry)) (now (tails .entry)) (now (heads .entry)) (now (weights .entry)) (now (forward .entry)) (now (backward .entry))) (now (room .entry)) (now (room .exit)) ⌝ }
 {
@@ -126,7 +193,9 @@ pub fn take_query(
     let held = reader.held;
     let arcs = reader.arcs_read;
     let nodes = reader.nodes_read;
+    let own = reader.verdict;
     let written = answer_query(
+        own,
         reader.nodes,
         &tails[..arcs],
         &heads[..arcs],

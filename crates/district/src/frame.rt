@@ -1,11 +1,13 @@
 // One line's frame taken into a file: the 01, the arcs and the potentials, each where it is owed. Each decoded frame is taken
 // apart by `let else`, and the other branch returns the refusal.
 ghost use mathlib.Core.Path.{_≡_};
+ghost use mathlib.Core.List.{[]};
 ghost use Prim.Native.Nat.{_<_};
 ghost use lib.ListN.{length, set};
-ghost use Rattle.frames.specs.Frame.{frameOf};
+ghost use Rattle.frames.specs.AnswerLines.{answerLines};
+ghost use Rattle.frames.specs.Room.{Placed};
 ghost use Rattle.district.specs.File.{refused, wrong, takeSize, takeArcs, takePotentials, takeFrame, takeLine, brokenLine};
-ghost use Rattle.district.specs.Reader.{lists, fileOf, nextReader, Kept, Stepped, SteppedOver, SteppedArcs, SteppedPotentials, NotLast, ArcsOpen, PotentialsOpen, NoArc};
+ghost use Rattle.district.specs.Reader.{lists, fileOf, nextReader, Kept, Stepped, SteppedOver, SteppedArcs, SteppedPotentials, NotLast, ArcsOpen, PotentialsOpen, Read, ownVerdict, withVerdict, NoArc};
 use crate::LAST_LINE;
 use crate::Reader;
 use crate::Taken;
@@ -13,13 +15,21 @@ use crate::answer;
 use frames::Frame;
 use network::Answer;
 use network::Cause;
+use network::Verdict;
+
+// The line of a refusal, which has no path.
+pub fn write_refusal(cause: Cause, room: &mut [u8]) -> usize
+    ensures { λ r. ⌜ Placed (answerLines (Answer.Refused cause) []) (now (room .entry)) (now (room .exit)) r ⌝ }
+{
+    let no_path = [0u16; 1];
+    frames::write_answer(room, Answer::Refused(cause), &no_path)
+}
 
 // A file refusal: its line, and the file does not go on.
 pub fn refuse(reader: Reader, cause: Cause, room: &mut [u8]) -> Taken
     ensures { λ r. ⌜ SteppedOver (λ f. refused f cause) reader r (now (room .entry)) (now (room .exit)) ⌝ }
 {
-    let no_path = [0u16; 1];
-    let written = frames::write_answer(room, Answer::Refused(cause), &no_path);
+    let written = write_refusal(cause, room);
     let mut ended = reader;
     ended.going = false;
     Taken {
@@ -149,16 +159,65 @@ fn take_arcs(
     }
 }
 
-// A 03 where potentials are owed: those of the next node, and of no other.
+// What the network itself is refused for (7, 8 or 9). It is computed once, when the last potentials are read.
+fn own_verdict(
+    reader: Reader,
+    tails: &[u16],
+    heads: &[u16],
+    weights: &[u32],
+    forward: &[i32],
+    backward: &[i32],
+) -> Verdict
+    requires { ⌜ Read reader (now tails) (now heads) (now weights) (now forward) (now backward) ⌝ }
+    ensures { λ r. ⌜ r ≡ ownVerdict reader (now (tails .entry)) (now (heads .entry)) (now (weights .entry)) (now (forward .entry)) (now (backward .entry)) ⌝ }
+{
+    let nodes = reader.nodes_read;
+    if nodes < reader.nodes as usize {
+        return Verdict::Accepted;
+    }
+    let arcs = reader.arcs_read;
+    network::check_network(
+        reader.nodes,
+        &tails[..arcs],
+        &heads[..arcs],
+        &weights[..arcs],
+        &forward[..nodes],
+        &backward[..nodes],
+    )
+}
+
+// The reader with this verdict on its network.
+fn with_verdict(reader: Reader, verdict: Verdict) -> Reader
+    ensures { λ r. ⌜ r ≡ withVerdict reader verdict ⌝ }
+{
+    Reader {
+        line: reader.line,
+        held: reader.held,
+        single: reader.single,
+        going: reader.going,
+        nodes: reader.nodes,
+        arcs: reader.arcs,
+        arcs_read: reader.arcs_read,
+        nodes_read: reader.nodes_read,
+        verdict,
+        asked: reader.asked,
+    }
+}
+
+// A 03 where potentials are owed: those of the next node, and of no other. With the last of them the network is whole, and
+// judged.
 fn take_potentials(
     reader: Reader,
     frame: Frame,
+    tails: &[u16],
+    heads: &[u16],
+    weights: &[u32],
     forward: &mut [i32],
     backward: &mut [i32],
     room: &mut [u8],
 ) -> Taken
-    requires { ⌜ PotentialsOpen reader (now forward) (now backward) ⌝ }
-    ensures { λ r. ⌜ SteppedPotentials (λ f. takePotentials f frame) reader r (now (forward .entry)) (now (backward .entry)) (now (forward .exit)) (now (backward .exit)) (now (room .entry)) (now (room .exit)) ⌝ }
+    requires { ⌜ PotentialsOpen reader (now tails) (now heads) (now weights) (now forward) (now backward) ⌝ }
+    ensures { λ r. ⌜ SteppedPotentials (λ f. takePotentials f frame) reader r (now (tails .entry)) (now (heads .entry)) (now (weights .entry)) (now (forward .entry)) (now (backward .entry)) (now (forward .exit)) (now (backward .exit)) (now (room .entry)) (now (room .exit)) ⌝ }
 {
     let Frame::Potentials { node, h, k } = frame else {
         return refuse_frame(reader, frame, room);
@@ -171,8 +230,10 @@ fn take_potentials(
     backward[at] = k;
     let mut next = next_line(reader);
     next.nodes_read = at + 1;
+    let own = own_verdict(next, tails, heads, weights, forward, backward);
+    let judged = with_verdict(next, own);
     Taken {
-        reader: next,
+        reader: judged,
         written: 0,
     }
 }
@@ -200,7 +261,16 @@ fn take_frame(
         return take_arcs(reader, frame, tails, heads, weights, room);
     }
     if reader.nodes_read < reader.nodes as usize {
-        return take_potentials(reader, frame, forward, backward, room);
+        return take_potentials(
+            reader,
+            frame,
+            tails,
+            heads,
+            weights,
+            forward,
+            backward,
+            room,
+        );
     }
     answer::take_query(
         reader,

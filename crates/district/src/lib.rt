@@ -6,27 +6,31 @@ ghost use Prim.Native.Nat.{_+_, _≤_};
 ghost use lib.ListN.{length};
 ghost use Rattle.frames.specs.Room.{Placed, Laid};
 ghost use Rattle.district.specs.File.{takeByte, displayAnswer};
-ghost use Rattle.district.specs.Reader.{mostBytes, refusalBytes, Roomy, startReader, lists, fileOf, Kept, Stepped, Counted, Ended, owesBy};
+ghost use Rattle.district.specs.Reader.{mostBytes, refusalBytes, Roomy, startReader, lists, fileOf, Kept, Stepped, Reached, Ended, owesBy};
 
 mod answer;
 mod frame;
 
 use network::Cause;
+use network::Verdict;
 
 // The line with this number is 11, sound or not.
 const LAST_LINE: u32 = 4294967295;
 
 const LINE_FEED: u8 = 10;
 
+// The most nodes, as the length of a list.
+const MOST_NODES: usize = network::MOST_NODES as usize;
+
 // The most bytes of an answer: a route's line, and the line of a path over as many nodes as there can be.
-pub const MOST_BYTES: usize = 31 + 3 + 4 * 2048;
+pub const MOST_BYTES: usize = 31 + 3 + 4 * MOST_NODES;
 
 // The bytes of a refusal's line.
 const REFUSAL_BYTES: usize = 13;
 
 // Where a file stands: the line that is being read and how many bytes of it there are, whether one query only may stand in it,
-// whether it goes on, what its 01 stated (no nodes while the 01 is owed), how many arcs and potentials were read, and whether a
-// query was answered.
+// whether it goes on, what its 01 stated (no nodes while the 01 is owed), how many arcs and potentials were read, what the
+// network itself is refused for (known once its last potentials are read), and whether a query was answered.
 pub struct Reader {
     pub line: u32,
     pub held: usize,
@@ -36,6 +40,7 @@ pub struct Reader {
     pub arcs: usize,
     pub arcs_read: usize,
     pub nodes_read: usize,
+    pub verdict: Verdict,
     pub asked: bool,
 }
 
@@ -58,6 +63,7 @@ pub fn start(single: bool, line: u32) -> Reader
         arcs: 0,
         arcs_read: 0,
         nodes_read: 0,
+        verdict: Verdict::Accepted,
         asked: false,
     }
 }
@@ -115,7 +121,7 @@ fn owes(reader: Reader) -> bool
 
 // The end of input: inside a line it is 10; at the start of a line it is 11 there where a frame is owed, and nothing else.
 pub fn end_of_input(reader: Reader, room: &mut [u8]) -> usize
-    requires { ⌜ Counted reader ⌝ }
+    requires { ⌜ Reached reader ⌝ }
     ensures { λ r. ⌜ Ended reader (now (room .entry)) (now (room .exit)) r ⌝ }
 {
     if !reader.going {
@@ -190,12 +196,12 @@ fn gather(
 pub fn answer_file(file: &[u8], room: &mut [u8]) -> usize
     ensures { λ r. ⌜ Placed (displayAnswer (now (file .entry))) (now (room .entry)) (now (room .exit)) r ⌝ }
 {
-    let mut line = [0u8; 267];
-    let mut tails = [0u16; 8192];
-    let mut heads = [0u16; 8192];
-    let mut weights = [0u32; 8192];
-    let mut forward = [0i32; 2048];
-    let mut backward = [0i32; 2048];
+    let mut line = [0u8; frames::MOST_DIGITS];
+    let mut tails = [0u16; network::MOST_ARCS];
+    let mut heads = [0u16; network::MOST_ARCS];
+    let mut weights = [0u32; network::MOST_ARCS];
+    let mut forward = [0i32; MOST_NODES];
+    let mut backward = [0i32; MOST_NODES];
     let mut text = [0u8; MOST_BYTES + REFUSAL_BYTES];
     let n = gather(
         file,

@@ -3,27 +3,24 @@
 use mathlib.Core.Path.{_≡_, refl, ap, _∙_}
 use mathlib.Core.Bool.{Bool, true, false, cond}
 use mathlib.Core.List.{List, [], _∷_, _++_, append-nil, append-assoc}
-use Prim.Native.Nat.{ℕ, suc, _+_, _-_, _≤_, _<_}
+use Prim.Native.Nat.{ℕ, _+_, _-_, _≤_, _<_}
 use native.Mathlib.Omega.{arith}
 use native.Mathlib.Nat.{le-refl}
 use native.Mathlib.Numerals.{add-one}
 use lib.Dec.{leb}
-use lib.IntN.{ℤ, pos}
-use lib.ListN.{length, take, replicate, length-replicate, drop, getD, length-append, length-drop, drop-of-length-le}
+use lib.ListN.{length, take, drop, getD, length-append, length-drop, drop-of-length-le}
 use lib.Seq.{take-suc, take-all, take-at, take-add, length-take-le}
 use borrow.Author.Tests.{le-leb, leb-true}
-use Rattle.network.specs.Network.{mostNodes, mostArcs}
-use Rattle.frames.specs.Frame.{mostDigits}
 use Rattle.frames.specs.Room.{laid, placed, counted, Placed}
 use Rattle.district.specs.declared.Reader.{Reader}
 use Rattle.district.specs.declared.Taken.{Taken}
 use Rattle.district.specs.File.{File, step, takeByte, feed}
 use Rattle.district.specs.FileLaws.{feed-append}
-use Rattle.district.specs.Reader.{Lists, lists, fileOf, Counted, Roomy, Kept, Stepped, Ended, startReader, mostBytes}
+use Rattle.district.specs.Reader.{Lists, fileOf, Roomy, Kept, Reached, Stepped, Ended, startReader, mostBytes}
 use Rattle.district.specs.ReaderLaws.{start-kept}
 use Rattle.routeline.specs.declared.Answered.{Answered}
 use Rattle.routeline.specs.StepLaws.{printed-fits}
-use Rattle.routeline.specs.Part.{Passes, Shows, Answers, Underway, SameLengths}
+use Rattle.routeline.specs.Part.{Passes, Answers, Underway, SameLengths}
 
 -- no byte is taken yet
 pub underway-start : (part : List ℕ) (r : Reader) (l : Lists) (room : List ℕ) → Kept r l → Underway (fileOf r l) part r 0 l room 0
@@ -163,25 +160,6 @@ placed-within text room after count p = rw (p .count-is) (within (leb (length te
 pub started : (r : Reader) (single : Bool) (line : ℕ) (l : Lists) → r ≡ startReader single line → Roomy l → Kept r l
 started r single line l e h = rw e (start-kept single line l h)
 
--- lists that have just enough room
-blank : Lists
-blank = lists (replicate mostDigits 0) (replicate mostArcs 0) (replicate mostArcs 0) (replicate mostArcs 0) (replicate mostNodes (pos 0)) (replicate mostNodes (pos 0))
-
-just : (A : Type 0) (n : ℕ) (a : A) → n ≤ length (replicate n a)
-just A n a = rw length-replicate (le-refl n)
-
-blank-roomy : Roomy blank
-unfolding blank
-blank-roomy =
-    record {
-      for-line = just ℕ mostDigits 0;
-      for-tails = just ℕ mostArcs 0;
-      for-heads = just ℕ mostArcs 0;
-      for-weights = just ℕ mostArcs 0;
-      for-forward = just ℤ mostNodes (pos 0);
-      for-backward = just ℤ mostNodes (pos 0);
-    }
-
 -- what the end of input prints lies within the room
-pub ended-within : (r : Reader) (room after : List ℕ) (written : ℕ) → Counted r → Ended r room after written → written ≤ length room
-ended-within r room after written k e = placed-within _ room after written (e .law blank (record { counted = k; roomy = blank-roomy }))
+pub ended-within : (r : Reader) (room after : List ℕ) (written : ℕ) → Reached r → Ended r room after written → written ≤ length room
+ended-within r room after written left e = placed-within _ room after written (e .law (left .over) (left .kept))

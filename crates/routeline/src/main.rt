@@ -5,7 +5,7 @@
 // leaves in the room is what the definition prints for the bytes that it took.
 ghost use Prim.Native.Nat.{_≤_};
 ghost use lib.ListN.{length};
-ghost use Rattle.district.specs.Reader.{lists, fileOf, Kept, Counted, mostBytes};
+ghost use Rattle.district.specs.Reader.{lists, fileOf, Kept, Reached, mostBytes};
 ghost use Rattle.routeline.specs.Part.{Answers, Passes};
 use district::Reader;
 use libc::STDIN_FILENO;
@@ -162,7 +162,7 @@ fn hear(
 
 // Writes what the end of input prints, which fits in the room of one answer.
 fn finish(reader: Reader)
-    requires { ⌜ Counted reader ⌝ }
+    requires { ⌜ Reached reader ⌝ }
 {
     let mut room = [0u8; ANSWER];
     let written = district::end_of_input(reader, &mut room);

@@ -68,7 +68,7 @@ part-end-of-input-end : tie.Need-part-end-of-input-end Inv-loop μ-loop
 part-end-of-input-end c = omega arith
 
 end-of-input-requires : tie.Need-end-of-input-requires Inv-loop μ-loop
-end-of-input-requires c κs = c .before .before .loop .inv .0 .kept .counted
+end-of-input-requires c κs = record { over = _; kept = c .before .before .loop .inv .0 .kept }
 
 add-result : tie.Need-add-result Inv-loop μ-loop
 add-result c = omega (arith, end-count _ _ _ _ _ _ _ (c .before .before .before .before .before .loop .inv .0) (c .before .before .before .before .loop-test .left) _ _ (c .before .before .end-of-input .ensures .law _ (c .before .before .before .before .before .loop .inv .0 .kept)), c .before .before .before .before .before .loop .inv .0 .underway .size, c .before .before .before .before .before .before .before .before .before .before .before .before .before .good)

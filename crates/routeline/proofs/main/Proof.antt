@@ -34,7 +34,7 @@ loop-again : tie.Need-loop-again Inv-loop μ-loop
 loop-again c = c .before .hear .ensures
 
 finish-requires : tie.Need-finish-requires Inv-loop μ-loop
-finish-requires c κs = c .before .loop .inv .counted
+finish-requires c κs = record { over = _; kept = c .before .loop .inv }
 
 returns : tie.Need-returns Inv-loop μ-loop
 returns c = tt

@@ -5,7 +5,7 @@ use lib.Seq.{length-take-le}
 use Rattle.district.specs.Reader.{toldBy, fileOf}
 use Rattle.district.specs.ReaderLaws.{stepped-as}
 use Rattle.district.specs.TakenLaws.{query-taken}
-use Rattle.district.specs.QueryLaws.{one-too-many, may-be-asked}
+use Rattle.district.specs.QueryLaws.{known-by, one-too-many, may-be-asked}
 use Rattle.district.proofs.OtherFrames.{not-among, no-query}
 use borrow.Author.Needs.{needs}
 use Rattle.district.proofs.answer.take_query.Statement.{statement}
@@ -21,7 +21,7 @@ same-length : tie.Need-same-length
 same-length c = search needs
 
 returns : tie.Need-returns
-returns c = stepped-as (no-query (fileOf _ _) (c .before .before .before .before .before .before .before .before .before .before .args .frame) (not-among 4 0 1 2 3 5 (λ p q. omega arith) (λ p q. omega arith) (λ p q. omega arith) (λ p q. omega arith) (λ p q. omega arith) (c .before .before .before .before .match .keys2))) (c .before .before .refuse-frame .ensures .law _ (c .before .before .before .before .before .before .before .before .before .before .pre .1))
+returns c = stepped-as (no-query (fileOf _ _) (c .before .before .before .before .before .before .before .before .before .before .args .frame) (not-among 4 0 1 2 3 5 (λ p q. omega arith) (λ p q. omega arith) (λ p q. omega arith) (λ p q. omega arith) (λ p q. omega arith) (c .before .before .before .before .match .keys2))) (c .before .before .refuse-frame .ensures .law _ (c .before .before .before .before .before .before .before .before .before .before .pre .1 .1))
 
 one-too-many-requires : tie.Need-one-too-many-requires
 one-too-many-requires c κs = search needs
@@ -33,28 +33,28 @@ same-length-2 : tie.Need-same-length-2
 same-length-2 c = search needs
 
 returns-2 : tie.Need-returns-2
-returns-2 c = stepped-as (rw (c .before .before .before .before .before .before .before .frame .given .1) (one-too-many _ _ _ _ _ (sym (c .before .before .before .before .before .one-too-many .ensures) ∙ c .before .before .before .before .if1 .taken))) (c .before .before .refuse-frame2 .ensures .law _ (c .before .before .before .before .before .before .before .before .before .before .before .before .before .before .pre .1))
+returns-2 c = stepped-as (rw (c .before .before .before .before .before .before .before .frame .given .1) (one-too-many _ _ _ _ _ (sym (c .before .before .before .before .before .one-too-many .ensures) ∙ c .before .before .before .before .if1 .taken))) (c .before .before .refuse-frame2 .ensures .law _ (c .before .before .before .before .before .before .before .before .before .before .before .before .before .before .pre .1 .1))
 
 slice-aggregate-answer-query : tie.Need-slice-aggregate-answer-query
-slice-aggregate-answer-query c = sym (length-take-le _ _ (omega (arith, c .before .before .before .before .before .before .before .before .before .before .before .pre .1 .counted, c .before .before .before .before .before .before .before .before .before .before .before .pre .1 .roomy)))
+slice-aggregate-answer-query c = sym (length-take-le _ _ (omega (arith, c .before .before .before .before .before .before .before .before .before .before .before .pre .1 .1 .counted, c .before .before .before .before .before .before .before .before .before .before .before .pre .1 .1 .roomy)))
 
 slice-aggregate-answer-query-2 : tie.Need-slice-aggregate-answer-query-2
-slice-aggregate-answer-query-2 c = sym (length-take-le _ _ (omega (arith, c .before .before .before .before .before .before .before .before .before .before .before .before .pre .1 .counted, c .before .before .before .before .before .before .before .before .before .before .before .before .pre .1 .roomy)))
+slice-aggregate-answer-query-2 c = sym (length-take-le _ _ (omega (arith, c .before .before .before .before .before .before .before .before .before .before .before .before .pre .1 .1 .counted, c .before .before .before .before .before .before .before .before .before .before .before .before .pre .1 .1 .roomy)))
 
 slice-aggregate-answer-query-3 : tie.Need-slice-aggregate-answer-query-3
-slice-aggregate-answer-query-3 c = sym (length-take-le _ _ (omega (arith, c .before .before .before .before .before .before .before .before .before .before .before .before .before .pre .1 .counted, c .before .before .before .before .before .before .before .before .before .before .before .before .before .pre .1 .roomy)))
+slice-aggregate-answer-query-3 c = sym (length-take-le _ _ (omega (arith, c .before .before .before .before .before .before .before .before .before .before .before .before .before .pre .1 .1 .counted, c .before .before .before .before .before .before .before .before .before .before .before .before .before .pre .1 .1 .roomy)))
 
 slice-aggregate-answer-query-4 : tie.Need-slice-aggregate-answer-query-4
-slice-aggregate-answer-query-4 c = sym (length-take-le _ _ (omega (arith, c .before .before .before .before .before .before .before .before .before .before .before .before .before .before .pre .1 .counted, c .before .before .before .before .before .before .before .before .before .before .before .before .before .before .pre .1 .roomy)))
+slice-aggregate-answer-query-4 c = sym (length-take-le _ _ (omega (arith, c .before .before .before .before .before .before .before .before .before .before .before .before .before .before .pre .1 .1 .counted, c .before .before .before .before .before .before .before .before .before .before .before .before .before .before .pre .1 .1 .roomy)))
 
 slice-aggregate-answer-query-5 : tie.Need-slice-aggregate-answer-query-5
-slice-aggregate-answer-query-5 c = sym (length-take-le _ _ (omega (arith, c .before .before .before .before .before .before .before .before .before .before .before .before .before .before .before .pre .1 .counted, c .before .before .before .before .before .before .before .before .before .before .before .before .before .before .before .pre .1 .roomy)))
+slice-aggregate-answer-query-5 c = sym (length-take-le _ _ (omega (arith, c .before .before .before .before .before .before .before .before .before .before .before .before .before .before .before .pre .1 .1 .counted, c .before .before .before .before .before .before .before .before .before .before .before .before .before .before .before .pre .1 .1 .roomy)))
 
 slice-aggregate-answer-query-6 : tie.Need-slice-aggregate-answer-query-6
-slice-aggregate-answer-query-6 c = sym (length-take-le _ _ (omega (arith, c .before .before .before .before .before .before .before .before .before .before .before .before .before .before .before .before .pre .1 .counted, c .before .before .before .before .before .before .before .before .before .before .before .before .before .before .before .before .pre .1 .roomy)))
+slice-aggregate-answer-query-6 c = sym (length-take-le _ _ (omega (arith, c .before .before .before .before .before .before .before .before .before .before .before .before .before .before .before .before .pre .1 .1 .counted, c .before .before .before .before .before .before .before .before .before .before .before .before .before .before .before .before .pre .1 .1 .roomy)))
 
 answer-query-requires : tie.Need-answer-query-requires
-answer-query-requires c κs = search needs
+answer-query-requires c κs = known-by (c .before .before .before .before .before .before .before .before .before .before .before .before .before .before .before .before .before .args .reader) _ (c .before .before .before .before .before .before .before .before .before .before .before .before .before .before .before .before .before .pre .1 .1) (c .before .before .before .before .before .before .before .before .before .before .before .before .before .before .before .before .before .pre .1 .0)
 
 next-line-requires : tie.Need-next-line-requires
 next-line-requires c κs = search needs
@@ -67,7 +67,7 @@ unfolding toldBy
 returns-3 c =
     let r = c .before .before .before .before .before .before .before .before .before .before .before .before .before .before .before .before .before .before .before .before .before .args .reader in
     stepped-as (rw (c .before .before .before .before .before .before .before .before .before .before .before .before .before .before .frame .given .1) (may-be-asked r _ _ _ _ (sym (c .before .before .before .before .before .before .before .before .before .before .before .before .one-too-many .ensures) ∙ c .before .before .before .before .before .before .before .before .before .before .before .if1 .left)))
-    (query-taken r _ _ _ _ _ _ (c .next-line .ensures) (c .before .before .before .before .before .before .before .before .before .before .before .before .before .before .before .before .before .before .before .before .before .pre .1) (c .before .before .before .answer-query .ensures))
+    (query-taken r _ _ _ _ _ _ (c .next-line .ensures) (c .before .before .before .before .before .before .before .before .before .before .before .before .before .before .before .before .before .before .before .before .before .pre .1 .1) (c .before .before .before .answer-query .ensures))
 
 pub take-query-spec : {M : Type 1} → statement M
 take-query-spec =

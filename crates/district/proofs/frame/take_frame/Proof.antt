@@ -1,5 +1,5 @@
 -- `frame::take_frame` meets its contract: the reader's counts say what is owed. Assumes nothing.
-use Rattle.district.specs.ReaderLaws.{stepped-as, where-size-owed, where-arcs-owed, where-potentials-owed, where-none-owed}
+use Rattle.district.specs.ReaderLaws.{positive, stepped-as, potentials-open, where-size-owed, where-arcs-owed, where-potentials-owed, where-none-owed}
 use borrow.Author.Needs.{needs}
 use Rattle.district.proofs.frame.take_frame.Statement.{statement}
 use Rattle.district.proofs.frame.take_frame.Tie as tie
@@ -35,7 +35,7 @@ cast-if3 : tie.Need-cast-if3
 cast-if3 c = search needs
 
 take-potentials-requires : tie.Need-take-potentials-requires
-take-potentials-requires c κs = search needs
+take-potentials-requires c κs = potentials-open (c .before .before .before .before .before .before .before .before .before .before .before .before .before .before .before .before .before .before .args .reader) _ (c .before .before .before .before .before .before .before .before .before .before .before .before .before .before .before .before .before .before .pre .1) (c .before .before .before .before .before .before .before .before .before .before .before .before .before .before .before .before .before .before .pre .0) (c .before .before .before .before .before .before .before .before .before .if2 .left) (c .before .before .before .before .before .before .if3 .taken)
 
 same-length-6 : tie.Need-same-length-6
 same-length-6 c = search needs
@@ -46,12 +46,6 @@ same-length-7 c = search needs
 same-length-8 : tie.Need-same-length-8
 same-length-8 c = search needs
 
-returns-3 : tie.Need-returns-3
-returns-3 c = stepped-as (where-potentials-owed _ _ (c .before .before .before .before .before .before .before .before .before .before .before .before .before .before .before .before .before .before .before .before .pre .1) (c .before .before .before .before .before .before .before .before .before .before .before .before .before .before .before .before .before .before .before .before .args .frame) (c .before .before .before .before .before .before .before .before .before .before .before .before .before .if1 .left) (c .before .before .before .before .before .before .before .before .before .before .before .if2 .left) (c .before .before .before .before .before .before .before .before .if3 .taken)) (c .before .before .before .before .take-potentials .ensures .law _ _ _ _ (c .before .before .before .before .before .before .before .before .before .before .before .before .before .before .before .before .before .before .before .before .pre .1))
-
-take-query-requires : tie.Need-take-query-requires
-take-query-requires c κs = search needs
-
 same-length-9 : tie.Need-same-length-9
 same-length-9 c = search needs
 
@@ -61,6 +55,12 @@ same-length-10 c = search needs
 same-length-11 : tie.Need-same-length-11
 same-length-11 c = search needs
 
+returns-3 : tie.Need-returns-3
+returns-3 c = stepped-as (where-potentials-owed _ _ (c .before .before .before .before .before .before .before .before .before .before .before .before .before .before .before .before .before .before .before .before .before .before .before .pre .1) (c .before .before .before .before .before .before .before .before .before .before .before .before .before .before .before .before .before .before .before .before .before .before .before .args .frame) (c .before .before .before .before .before .before .before .before .before .before .before .before .before .before .before .before .if1 .left) (c .before .before .before .before .before .before .before .before .before .before .before .before .before .before .if2 .left) (c .before .before .before .before .before .before .before .before .before .before .before .if3 .taken)) (c .before .before .before .before .take-potentials .ensures .law _ (c .before .before .before .before .before .before .before .before .before .before .before .before .before .before .before .before .before .before .before .before .before .before .before .pre .1))
+
+take-query-requires : tie.Need-take-query-requires
+take-query-requires c κs = (c .before .before .before .before .before .before .before .before .before .before .before .before .before .before .before .before .before .before .pre .0, (record { some = positive _ (c .before .before .before .before .before .before .before .before .before .before .before .if1 .left); each = c .before .before .before .before .before .before .if3 .left }, c .before .before .before .before .before .before .before .before .before .before .before .before .before .before .before .before .before .before .pre .1))
+
 same-length-12 : tie.Need-same-length-12
 same-length-12 c = search needs
 
@@ -69,6 +69,15 @@ same-length-13 c = search needs
 
 same-length-14 : tie.Need-same-length-14
 same-length-14 c = search needs
+
+same-length-15 : tie.Need-same-length-15
+same-length-15 c = search needs
+
+same-length-16 : tie.Need-same-length-16
+same-length-16 c = search needs
+
+same-length-17 : tie.Need-same-length-17
+same-length-17 c = search needs
 
 returns-4 : tie.Need-returns-4
 returns-4 c = stepped-as (where-none-owed _ _ (c .before .before .before .before .before .before .before .before .before .before .before .before .before .before .before .before .before .before .before .before .before .pre .1) (c .before .before .before .before .before .before .before .before .before .before .before .before .before .before .before .before .before .before .before .before .before .args .frame) (c .before .before .before .before .before .before .before .before .before .before .before .before .before .before .if1 .left) (c .before .before .before .before .before .before .before .before .before .before .before .before .if2 .left) (c .before .before .before .before .before .before .before .before .before .if3 .left)) (c .before .before .take-query .ensures)
@@ -91,12 +100,15 @@ take-frame-spec =
     same-length-6
     same-length-7
     same-length-8
-    returns-3
-    take-query-requires
     same-length-9
     same-length-10
     same-length-11
+    returns-3
+    take-query-requires
     same-length-12
     same-length-13
     same-length-14
+    same-length-15
+    same-length-16
+    same-length-17
     returns-4)

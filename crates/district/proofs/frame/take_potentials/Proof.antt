@@ -2,7 +2,7 @@
 use mathlib.Core.Path.{_≡_, ap}
 use Prim.Native.Nat.{_<_, _^_}
 use lib.IntN.{ℤ}
-use lib.ListN.{set}
+use lib.ListN.{set, length-set}
 use lib.Signed.{mag}
 use mir.Syntax.{w32}
 use mir.Val.{toZ, ofZ}
@@ -10,7 +10,7 @@ use mir.Facts.{toZ-ofZ}
 use native.Mathlib.Omega.{arith}
 use Rattle.district.specs.Reader.{fileOf}
 use Rattle.district.specs.ReaderLaws.{over-as, over-potentials}
-use Rattle.district.specs.TakenLaws.{grown-one, potentials-taken, other-node}
+use Rattle.district.specs.TakenLaws.{grown-one, read-next, potentials-taken, other-node}
 use Rattle.district.proofs.OtherFrames.{not-among, no-potentials}
 use borrow.Author.Needs.{needs}
 use Rattle.district.proofs.frame.take_potentials.Statement.{statement}
@@ -30,7 +30,7 @@ same-length : tie.Need-same-length
 same-length c = search needs
 
 returns : tie.Need-returns
-returns c = over-potentials _ _ (over-as (λ l h. no-potentials (fileOf _ l) (c .before .before .before .before .before .before .args .frame) (not-among 3 0 1 2 4 5 (λ p q. omega arith) (λ p q. omega arith) (λ p q. omega arith) (λ p q. omega arith) (λ p q. omega arith) (c .before .before .before .before .match .keys2))) (c .before .before .refuse-frame .ensures))
+returns c = over-potentials _ _ _ _ _ (over-as (λ l h. no-potentials (fileOf _ l) (c .before .before .before .before .before .before .before .before .before .args .frame) (not-among 3 0 1 2 4 5 (λ p q. omega arith) (λ p q. omega arith) (λ p q. omega arith) (λ p q. omega arith) (λ p q. omega arith) (c .before .before .before .before .match .keys2))) (c .before .before .refuse-frame .ensures))
 
 cast-if1 : tie.Need-cast-if1
 cast-if1 c = search needs
@@ -43,7 +43,7 @@ same-length-2 c = search needs
 
 returns-2 : tie.Need-returns-2
 returns-2 c =
-    over-potentials _ _
+    over-potentials _ _ _ _ _
     (over-as (λ l h. rw (c .before .before .before .before .before .before .frame .given .1) (other-node _ l h _ _ _ (c .before .before .before .before .if1 .taken))) (c .before .before .refuse-frame2 .ensures))
 
 mul-h : tie.Need-mul-h
@@ -64,6 +64,15 @@ next-line-requires c κs = search needs
 add-next : tie.Need-add-next
 add-next c = search needs
 
+own-verdict-requires : tie.Need-own-verdict-requires
+own-verdict-requires c κs =
+    let a = c .before .before .before .before .before .before .before .before .before .before .before .args in
+    let at = a .reader .«nodes_read» in
+    read-next (a .reader) _ _ _ _ _ _ _ _ (c .before .before .next-line .ensures) (c .before .before .before .before .before .before .before .before .before .before .before .pre) (length-set {A = ℤ} (a .forward .now) at _) (length-set {A = ℤ} (a .backward .now) at _)
+
+with-verdict-requires : tie.Need-with-verdict-requires
+with-verdict-requires c κs = search needs
+
 same-length-3 : tie.Need-same-length-3
 same-length-3 c = search needs
 
@@ -72,13 +81,14 @@ same-length-4 c = search needs
 
 returns-3 : tie.Need-returns-3
 returns-3 c =
-    let a = c .before .before .before .before .before .before .args in
-    let given = c .before .before .before .frame .given in
-    let fits = c .before .before .known-told .given in
-    rw (given .1)
-    (potentials-taken (a .reader) _ (given .0 .0) (given .0 .1 .0) (given .0 .1 .1 .0) _ (c .next-line .ensures) (c .before .if1 .left) (c .before .before .before .before .before .before .pre .owed)
-    (grown-one (a .forward .now) _ (given .0 .1 .0) (ap (set (a .forward .now) (a .reader .«nodes_read»)) (back32 _ (fits .1 .0 .1))) (omega (arith, c .before .before .before .before .before .before .pre)))
-    (grown-one (a .backward .now) _ (given .0 .1 .1 .0) (ap (set (a .backward .now) (a .reader .«nodes_read»)) (back32 _ (fits .1 .1 .0 .1))) (omega (arith, c .before .before .before .before .before .before .pre))))
+    let a = c .before .before .before .before .before .before .before .before .before .before .before .before .before .args in
+    let given = c .before .before .before .before .before .before .before .frame .given in
+    let fits = c .before .before .before .before .before .before .known-told .given in
+    rw (given .1, c .with-verdict .ensures)
+    (potentials-taken (a .reader) _ (given .0 .0) (given .0 .1 .0) (given .0 .1 .1 .0) _ _ (c .before .before .before .before .next-line .ensures) (c .before .before .before .before .before .if1 .left) (c .before .before .before .before .before .before .before .before .before .before .before .before .before .pre .arcs-read) (c .before .before .before .before .before .before .before .before .before .before .before .before .before .pre .owed)
+    (grown-one (a .forward .now) _ (given .0 .1 .0) (ap (set (a .forward .now) (a .reader .«nodes_read»)) (back32 _ (fits .1 .0 .1))) (omega (arith, c .before .before .before .before .before .before .before .before .before .before .before .before .before .pre)))
+    (grown-one (a .backward .now) _ (given .0 .1 .1 .0) (ap (set (a .backward .now) (a .reader .«nodes_read»)) (back32 _ (fits .1 .1 .0 .1))) (omega (arith, c .before .before .before .before .before .before .before .before .before .before .before .before .before .pre)))
+    (c .before .own-verdict .ensures))
 
 pub take-potentials-spec : {M : Type 1} → statement M
 take-potentials-spec =
@@ -98,6 +108,8 @@ take-potentials-spec =
     slice-set-from-k
     next-line-requires
     add-next
+    own-verdict-requires
+    with-verdict-requires
     same-length-3
     same-length-4
     returns-3)
