@@ -86,6 +86,18 @@ p-cases =
     ∷ []
 
 -- ---- readings that go wrong
+-- from 0 to 2 by an arc of weight 3, and over 1 by two arcs of weight 1: forward and backward potentials, pattern
+abbrev detour : List ℤ → List ℤ → List ℕ → Query
+detour h k p = query (network 3 (0 ∷ 0 ∷ 1 ∷ []) (2 ∷ 1 ∷ 2 ∷ []) (3 ∷ 1 ∷ 1 ∷ [])) h k 0 2 p
+
+-- from 0 to 2, pattern 0: two arcs of weight 2 leave 0, one to 2 and one to 1, where no arc goes on
+abbrev fork : List ℤ → List ℤ → Query
+fork h k = query (network 3 (0 ∷ 0 ∷ []) (2 ∷ 1 ∷ []) (2 ∷ 2 ∷ [])) h k 0 2 (0 ∷ [])
+
+-- two routes of length 3 from 0 to 3, the one over 2 with the lower arc numbers
+abbrev twoRoutes : List ℕ → Query
+twoRoutes p = query (network 4 (0 ∷ 0 ∷ 2 ∷ 1 ∷ []) (2 ∷ 1 ∷ 3 ∷ 3 ∷ []) (2 ∷ 1 ∷ 1 ∷ 2 ∷ [])) (zeros 4) (zeros 4) 0 3 p
+
 abbrev trap-cases : List Case
 trap-cases =
     -- three parallel arcs, looked at in one turn: who stops at once at the first meeting answers 5. (Who first ends the turn
@@ -106,6 +118,43 @@ trap-cases =
     -- two routes of length 2: who takes the highest number among equals answers 0 2 3
     ∷ asks (query (network 4 (0 ∷ 0 ∷ 1 ∷ 2 ∷ []) (1 ∷ 2 ∷ 3 ∷ 3 ∷ []) (1 ∷ 1 ∷ 1 ∷ 1 ∷ [])) (zeros 4) (zeros 4) 0 3 (0 ∷ []))
     (Route 2 3 (figures 4 3 0 1)) (0 ∷ 1 ∷ 3 ∷ [])
+    -- two chains of three nodes that do not meet, pattern 011, turns 0 1 1 0 1: who stops at the pattern's end answers 3 turns,
+    -- and who uses its last entry for ever 4, with 1 and 3 opened
+    ∷ asks (query (network 6 (0 ∷ 1 ∷ 3 ∷ 4 ∷ []) (1 ∷ 2 ∷ 4 ∷ 5 ∷ []) (1 ∷ 1 ∷ 1 ∷ 1 ∷ [])) (zeros 6) (zeros 6) 0 5 (0 ∷ 1 ∷ 1 ∷ []))
+    (NoRoute (figures 5 2 3 0)) []
+    -- a rejecting turn uses up its entry of the pattern: who lets that side go again answers 5 turns, 3 rejected
+    ∷ asks (query (network 5 (1 ∷ 3 ∷ 2 ∷ 0 ∷ []) (4 ∷ 4 ∷ 4 ∷ 3 ∷ []) (1 ∷ 1 ∷ 1 ∷ 1 ∷ [])) (zeros 5) (zeros 5) 0 4 (1 ∷ 0 ∷ []))
+    (Route 2 3 (figures 4 1 1 2)) (0 ∷ 3 ∷ 4 ∷ [])
+    -- the end side's floor is k(end), -100, before its first turn: who begins with 0, with k(start) or with a potential h
+    -- answers 3, over 0 2
+    ∷ asks (detour (zeros 3) (pos 0 ∷ negℤ (pos 100) ∷ negℤ (pos 100) ∷ []) (0 ∷ [])) (Route 2 3 (figures 3 2 0 1)) (0 ∷ 1 ∷ 2 ∷ [])
+    -- the start side's floor is h(start), -100, before its first turn: who begins with 0, with h(end) or with a potential k
+    -- answers 3, over 0 2
+    ∷ asks (detour (negℤ (pos 100) ∷ negℤ (pos 100) ∷ pos 0 ∷ []) (zeros 3) (1 ∷ [])) (Route 2 3 (figures 3 0 2 1)) (0 ∷ 1 ∷ 2 ∷ [])
+    -- node 1 has label 2 and potential 1, node 2 has label 2 and potential 0: who takes the least label alone takes node 1
+    -- first, and answers 3 turns, 2 rejected
+    ∷ asks (fork (pos 0 ∷ pos 1 ∷ pos 0 ∷ []) (zeros 3)) (Route 2 2 (figures 2 1 0 1)) (0 ∷ 2 ∷ [])
+    -- the first test of step 4 gives just L, 2, for node 1, and the second gives 1: who rejects above L only opens node 1, and
+    -- so does who takes the start for the target
+    ∷ asks (fork (pos 1 ∷ pos 0 ∷ pos 0 ∷ []) (pos 1 ∷ pos 1 ∷ pos 0 ∷ [])) (Route 2 2 (figures 3 1 0 2)) (0 ∷ 2 ∷ [])
+    -- the second test of step 4 gives just L, 2, for node 1, and the first gives 1: who rejects above L only opens node 1
+    ∷ asks (fork (pos 0 ∷ negℤ (pos 1) ∷ pos 0 ∷ []) (zeros 3)) (Route 2 2 (figures 3 1 0 2)) (0 ∷ 2 ∷ [])
+    -- only the floor of the side whose turn it was is renewed: who renews both answers 1 opened by each side, 2 rejected
+    ∷ asks (query (network 4 (2 ∷ 0 ∷ 1 ∷ 0 ∷ []) (3 ∷ 2 ∷ 3 ∷ 1 ∷ []) (2 ∷ 0 ∷ 2 ∷ 2 ∷ [])) (pos 2 ∷ pos 0 ∷ pos 3 ∷ pos 3 ∷ [])
+    (pos 3 ∷ pos 0 ∷ pos 1 ∷ pos 1 ∷ []) 0 3 (1 ∷ 0 ∷ 1 ∷ []))
+    (Route 2 3 (figures 4 1 2 1)) (0 ∷ 2 ∷ 3 ∷ [])
+    -- both routes meet in one turn, of the start side here and of the end side below: who looks at the arcs in falling order, or
+    -- by their far nodes, answers 0 1 3
+    ∷ asks (twoRoutes (1 ∷ 0 ∷ [])) (Route 3 3 (figures 4 1 2 1)) (0 ∷ 2 ∷ 3 ∷ [])
+    ∷ asks (twoRoutes (0 ∷ 1 ∷ [])) (Route 3 3 (figures 4 2 1 1)) (0 ∷ 2 ∷ 3 ∷ [])
+    -- the start side runs out in turn 2, while the end side could go on: who goes on answers 3 turns, 2 rejected
+    ∷ asks (query (network 3 (0 ∷ 2 ∷ []) (1 ∷ 1 ∷ []) (1 ∷ 1 ∷ [])) (zeros 3) (zeros 3) 0 1 (1 ∷ 0 ∷ [])) (Route 1 2 (figures 2 0 1 1)) (0 ∷ 1 ∷ [])
+    -- node 1 is the first that both sides reach by itself, with length 6: who waits for a node scanned from both sides, as
+    -- document 001's elementary version does, answers 6, over 0 1 4
+    ∷ asks (query (network 5 (0 ∷ 1 ∷ 0 ∷ 2 ∷ 3 ∷ []) (1 ∷ 4 ∷ 2 ∷ 3 ∷ 4 ∷ []) (3 ∷ 3 ∷ 2 ∷ 1 ∷ 2 ∷ [])) (zeros 5) (zeros 5) 0 4 (0 ∷ 1 ∷ []))
+    (Route 5 4 (figures 5 2 1 2)) (0 ∷ 2 ∷ 3 ∷ 4 ∷ [])
+    -- start equal to end, and arc 0 breaks the rule: who answers before testing answers a route of length 0
+    ∷ asks (query (network 2 (0 ∷ []) (1 ∷ []) (1 ∷ [])) (pos 2 ∷ pos 0 ∷ []) (zeros 2) 0 0 (0 ∷ [])) (Refused (Inconsistent 0)) []
     ∷ []
 
 -- P1 to P12, then the readings that go wrong
@@ -163,6 +212,15 @@ table-cases =
       end-labels = missing ∷ 0 ∷ missing ∷ [];
       end-neighbours = noNode ∷ noNode ∷ noNode ∷ [];
       states = 1 ∷ 3 ∷ 0 ∷ [];
+    }
+    -- P4, with the marks for what is missing written out
+    ∷ record {
+      asked = inD5 3 0 (0 ∷ 1 ∷ []);
+      start-labels = 4294967295 ∷ 4294967295 ∷ 4294967295 ∷ 0 ∷ 4294967295 ∷ [];
+      start-neighbours = 65535 ∷ 65535 ∷ 65535 ∷ 65535 ∷ 65535 ∷ [];
+      end-labels = 0 ∷ 4294967295 ∷ 4294967295 ∷ 4294967295 ∷ 4294967295 ∷ [];
+      end-neighbours = 65535 ∷ 65535 ∷ 65535 ∷ 65535 ∷ 65535 ∷ [];
+      states = 0 ∷ 0 ∷ 0 ∷ 1 ∷ 0 ∷ [];
     }
     ∷ []
 
