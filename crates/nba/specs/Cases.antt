@@ -1,5 +1,5 @@
--- The cases of document 01 marked P, and its readings that go wrong, each with its whole expected answer. One list, and one
--- proof over it by computation. Assumes nothing.
+-- The cases of document 01 marked P, and readings of its report and of its steps that go wrong, each with its whole expected
+-- answer. One list, and one proof over it by computation. Assumes nothing.
 use mathlib.Core.Path.{_≡_, refl}
 use mathlib.Core.List.{List, [], _∷_, _++_, map}
 use Prim.Native.Nat.{ℕ}
