@@ -43,7 +43,7 @@ sound-lines =
     ∷ spells "020102FFFF000F4241" (Arc 258 65535 1000001) []
     -- 05: who knows only 01 to 04, or takes it for 02
     ∷ spells "0500000001000F4240" (TwoWay 0 1 1000000) []
-    -- 03: the lowest potential and the highest, -1 and 0: who reads them without a sign, or by the first bit and the rest
+    -- 03: the lowest potential and the highest, -1 and 0: who reads no sign, or takes the top bit for a minus before the rest
     ∷ spells "03000085FD42407A02BDC0" (Potentials 0 (negℤ (pos 2047000000)) (pos 2047000000)) []
     ∷ spells "0307FFFFFFFFFF00000000" (Potentials 2047 (negℤ (pos 1)) (pos 0)) []
     -- 04: the query of D5; no entries and entry F, which the refusal table tests: who refuses them here
