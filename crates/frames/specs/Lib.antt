@@ -16,3 +16,4 @@ pub mod RoomLaws
 pub mod LineSteps
 pub mod AnswerLaws
 pub mod OneAnswer
+pub mod Cases

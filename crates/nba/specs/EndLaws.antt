@@ -19,7 +19,7 @@ use Rattle.nba.specs.State.{missing, present, State, half, labelOf}
 use Rattle.nba.specs.Search.{ended, afterTurns, atOnce, endState}
 use Rattle.nba.specs.Result.{trail, trailOf, pathOf, figuresAt, answerAt}
 use Rattle.nba.specs.Demands.{WalkOfLength, Joined, NoneTwice}
-use Rattle.nba.specs.CodeLaws.{at-once-tabled, stays-ended}
+use Rattle.nba.specs.CodeLaws.{at-once-tabled, stays-ended, end-unsearched, end-searched}
 use Rattle.nba.specs.BeginningLaws.{at-once-begun, begun-source}
 use Rattle.nba.specs.Trails.{Trail, at-source, HasTrail, trail-short}
 use Rattle.nba.specs.TrailLaws.{length-turned-before, length-trail}
@@ -141,11 +141,10 @@ module _ {q : Query} (sound : Sound q) where
       omega (arith, r .no-longer, f (r .total) (omega (arith, r .small)) (r .walk))
 
   pub end-state-ends : q .start ≢ q .end → endState q ≡ afterTurns q (ends sound .turns)
-  unfolding endState
   end-state-ends d =
       let e = ends sound in
       by-bool (eqb (q .start) (q .end)) (λ t. absurd (d (eqb-true (q .start) (q .end) t)))
-      (λ t. rw t (stays-ended q (e .turns) (q .network .nodes) (e .over) (e .few)))
+      (λ t. end-searched q t ∙ stays-ended q (e .turns) (q .network .nodes) (e .over) (e .few))
 
   -- before the search has ended, fewer turns are over than there are nodes
   pub going-few : (i : ℕ) → ended q (afterTurns q i) ≡ false → i < q .network .nodes
@@ -155,9 +154,8 @@ module _ {q : Query} (sound : Sound q) where
       (λ l. absurd (true≢false (ap (ended q) (stays-ended q (e .turns) i (e .over) l) ∙ e .over) h))
 
   pub end-state-at-once : q .start ≡ q .end → endState q ≡ atOnce q
-  unfolding endState
   end-state-at-once e =
-      by-bool (eqb (q .start) (q .end)) (λ t. rw t) (λ t. absurd (eqb-false (q .start) (q .end) t e))
+      by-bool (eqb (q .start) (q .end)) (λ t. end-unsearched q t) (λ t. absurd (eqb-false (q .start) (q .end) t e))
 
   at-once-end : q .start ≡ q .end → AtEnd q (atOnce q)
   at-once-end e = record {
