@@ -1,20 +1,17 @@
 -- Laws of a file's answer: bytes may come in any pieces; a step prints no more than the lines of one answer, and the display's
 -- file no more than those and a refusal's line. Assumes nothing.
 use mathlib.Core.Path.{_≡_, refl, ap, _∙_}
-use mathlib.Core.Bool.{Bool, true, false, cond, _&&_, _||_}
+use mathlib.Core.Bool.{Bool, true, false, cond}
 use mathlib.Core.List.{List, [], _∷_, _++_, append-assoc}
-use Prim.Native.Nat.{ℕ, _+_, _-_, _≤_}
+use Prim.Native.Nat.{ℕ, _+_, _≤_}
 use native.Mathlib.Omega.{arith}
-use lib.Dec.{eqb, ltb, leb}
 use lib.ListN.{length, take, length-append, length-take}
 use Rattle.network.specs.declared.Cause.{Cause}
-use Rattle.network.specs.declared.Cause.the-variants.{MisplacedLine}
-use Rattle.network.specs.Network.{mostNodes, mostArcs}
 use Rattle.network.specs.declared.Answer.{Answer}
 use Rattle.network.specs.declared.Answer.the-variants.{Route, NoRoute, Refused}
 use Rattle.network.specs.declared.Verdict.{Verdict}
 use Rattle.network.specs.declared.Verdict.the-variants.{Accepted, Refused as Refusal}
-use Rattle.network.specs.CaseSplit.{cases, by-bool}
+use Rattle.network.specs.CaseSplit.{by-bool}
 use Rattle.network.specs.Query.{Query}
 use Rattle.network.specs.Refusal.{queryVerdict}
 use Rattle.network.specs.Given.{Sound}
@@ -22,12 +19,10 @@ use Rattle.network.specs.SoundLaws.{accepted-sound}
 use Rattle.nba.specs.Search.{endState}
 use Rattle.nba.specs.Result.{pathOf, found, answered, answerTo}
 use Rattle.nba.specs.Theorems.{path-fits}
-use Rattle.frames.specs.declared.Frame.{Frame}
-use Rattle.frames.specs.declared.Frame.the-variants.{Size, Arc, TwoWay, Potentials, Query as QueryFrame, Unsound}
-use Rattle.frames.specs.Frame.{mostDigits, frameOf}
-use Rattle.frames.specs.AnswerLines.{lineFeed, answerLines}
+use Rattle.frames.specs.AnswerLines.{answerLines}
 use Rattle.frames.specs.AnswerLaws.{length-refused, length-no-route, length-route}
-use Rattle.district.specs.File.{Told, File, Step, step, beginning, lastLine, refused, taken, addedArcs, sizeOwed, arcsOwed, potentialsOwed, owing, takeSize, takeArcs, takePotentials, workRoom, queryLines, takeQuery, takeFrame, takeLine, brokenLine, takeByte, endOfInput, feed, answerFrom}
+use Rattle.district.specs.StepCases.{by-line, by-broken, by-byte, by-end}
+use Rattle.district.specs.File.{Told, File, Step, step, beginning, refused, taken, workRoom, queryLines, takeByte, endOfInput, feed, answerFrom}
 use Rattle.district.specs.Reader.{mostBytes, refusalBytes}
 
 -- ---- pieces
@@ -99,75 +94,18 @@ module _ (f : File) (one : f .single ≡ true) (goes : f .going ≡ true) where
   unfolding taken atMost
   query-spends t q e none = record { still-single = one; out-of = rw (e, none, goes) (omega (arith, query-short q)) }
 
-  size-spends : (g : Frame) → Spends f (takeSize f g)
-  unfolding takeSize
-  size-spends (Size n m) =
-      cases (Spends f) (eqb n 0 || ltb mostNodes n) (λ _. refused-spends _)
-      (λ _. cases (Spends f) (ltb mostArcs m) (λ _. refused-spends _) (λ _. told-spends _ refl))
-  size-spends (Arc t h w) = refused-spends _
-  size-spends (TwoWay t h w) = refused-spends _
-  size-spends (Potentials v h k) = refused-spends _
-  size-spends (QueryFrame s e n) = refused-spends _
-  size-spends Unsound = refused-spends _
-
-  arcs-spend : (g : Frame) → Spends f (takeArcs f g)
-  unfolding takeArcs
-  arcs-spend g =
-      cases (Spends f) (ltb 0 (length (addedArcs g)) && leb (length (addedArcs g)) (f .told .arcs - length (f .told .tails)))
-      (λ _. told-spends _ refl) (λ _. refused-spends _)
-
-  potentials-spend : (g : Frame) → Spends f (takePotentials f g)
-  unfolding takePotentials
-  potentials-spend (Potentials v h k) = cases (Spends f) (eqb v (length (f .told .forward))) (λ _. told-spends _ refl) (λ _. refused-spends _)
-  potentials-spend (Size n m) = refused-spends _
-  potentials-spend (Arc t h w) = refused-spends _
-  potentials-spend (TwoWay t h w) = refused-spends _
-  potentials-spend (QueryFrame s e n) = refused-spends _
-  potentials-spend Unsound = refused-spends _
-
-  queries-spend : (g : Frame) → Spends f (takeQuery f g)
-  unfolding takeQuery
-  queries-spend (QueryFrame s e n) =
-      cases (Spends f) (f .single && f .told .asked) (λ _. refused-spends _) (λ h. query-spends _ _ refl (rw one at h))
-  queries-spend (Size n m) = refused-spends _
-  queries-spend (Arc t h w) = refused-spends _
-  queries-spend (TwoWay t h w) = refused-spends _
-  queries-spend (Potentials v h k) = refused-spends _
-  queries-spend Unsound = refused-spends _
-
-  broken-spends : Spends f (brokenLine f)
-  unfolding brokenLine
-  broken-spends = cases (Spends f) (eqb (f .line) lastLine) (λ _. refused-spends _) (λ _. refused-spends _)
-
-  line-spends : Spends f (takeLine f)
-  unfolding takeLine takeFrame
-  line-spends =
-      let g : Frame = frameOf (f .held) in
-      cases (Spends f) (eqb (f .line) lastLine) (λ _. refused-spends _)
-      (λ _. cases (Spends f) (sizeOwed (f .told)) (λ _. size-spends g)
-      (λ _. cases (Spends f) (arcsOwed (f .told)) (λ _. arcs-spend g)
-      (λ _. cases (Spends f) (potentialsOwed (f .told)) (λ _. potentials-spend g) (λ _. queries-spend g))))
-
 byte-spends : (f : File) (b : ℕ) → f .single ≡ true → Spends f (takeByte f b)
-unfolding takeByte atMost
+unfolding atMost
 byte-spends f b one =
-    cases (Spends f) (f .going)
-    (λ goes. cases (Spends f) (eqb b lineFeed) (λ _. line-spends f one goes)
-    (λ _. cases (Spends f) (ltb (length (f .held)) mostDigits) (λ _. record { still-single = one; out-of = omega arith })
-    (λ _. broken-spends f one goes)))
-    (λ _. record { still-single = one; out-of = omega arith })
+    by-byte f b (Spends f)
+    (λ goes. by-line f (Spends f) (refused-spends f one goes) (told-spends f one goes) (λ t q e none. query-spends f one goes t q e (rw one at none)))
+    (record { still-single = one; out-of = omega arith })
+    (λ goes. by-broken f (Spends f) (refused-spends f one goes))
+    (record { still-single = one; out-of = omega arith })
 
 end-spends : (f : File) → f .single ≡ true → length (endOfInput f) ≤ atMost f
-unfolding endOfInput
 end-spends f one =
-    cases (λ (l : List ℕ). length l ≤ atMost f) (f .going)
-    (λ goes. cases (λ (l : List ℕ). length l ≤ atMost f) (eqb (length (f .held)) 0)
-    (λ _. cases (λ (l : List ℕ). length l ≤ atMost f) (owing (f .told)) (λ _. printed (refused-spends f one goes (MisplacedLine (f .line)))) (λ _. omega arith))
-    (λ _. printed (broken-spends f one goes)))
-    (λ _. omega arith)
-  where
-    printed : {s : Step} → Spends f s → length (s .printed) ≤ atMost f
-    printed h = omega (arith, h .out-of)
+    by-end f (λ (l : List ℕ). length l ≤ atMost f) (omega arith) (λ goes c. omega (arith, refused-spends f one goes c .out-of))
 
 rest-spends : (f : File) (bytes : List ℕ) → f .single ≡ true → length (restOf f bytes) ≤ atMost f
 rest-spends f [] one = rw rest-none (end-spends f one)

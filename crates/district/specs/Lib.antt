@@ -3,6 +3,7 @@ pub mod Reader
 pub mod ReaderLaws
 pub mod TakenLaws
 pub mod QueryLaws
+pub mod StepCases
 pub mod FileLaws
 pub mod GatherLaws
 pub mod OneAnswer

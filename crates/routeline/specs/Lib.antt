@@ -1,3 +1,2 @@
 pub mod Part
-pub mod StepLaws
 pub mod PartLaws

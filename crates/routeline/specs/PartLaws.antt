@@ -18,8 +18,8 @@ use Rattle.district.specs.File.{File, step, takeByte, feed}
 use Rattle.district.specs.FileLaws.{feed-append}
 use Rattle.district.specs.Reader.{Lists, fileOf, Roomy, Kept, Reached, Stepped, Ended, startReader, mostBytes}
 use Rattle.district.specs.ReaderLaws.{start-kept}
+use Rattle.district.specs.PrintLaws.{printed-fits}
 use Rattle.routeline.specs.declared.Answered.{Answered}
-use Rattle.routeline.specs.StepLaws.{printed-fits}
 use Rattle.routeline.specs.Part.{Passes, Answers, Underway, SameLengths}
 
 -- no byte is taken yet
@@ -84,7 +84,7 @@ module _ (f : File) (part : List ℕ) (r : Reader) (at : ℕ) (l : Lists) (room 
 
   fits : length text ≤ length room - written
   unfolding text
-  fits = omega (arith, printed-fits (fileOf r l) (getD part at 0))
+  fits = omega (arith, printed-fits (fileOf r l) (getD part at 0) .bytes)
 
   pub underway-more : Underway f part (t .reader) (at + 1) after (take written room ++ (ys ++ drop (length room - written) (drop written room))) (written + t .written)
   unfolding text home
@@ -99,7 +99,7 @@ module _ (f : File) (part : List ℕ) (r : Reader) (at : ℕ) (l : Lists) (room 
                   front-is text room ys written (t .written) (u .shows .within) fits (s .room-is)
                   ∙ rw (feed-more f part at more, u .shows .printed-is, ← u .passes .file-is);
             };
-        few = omega (arith, u .few, count-is text room ys written (t .written) (u .shows .within) fits (s .room-is), printed-fits (fileOf r l) (getD part at 0));
+        few = omega (arith, u .few, count-is text room ys written (t .written) (u .shows .within) fits (s .room-is), printed-fits (fileOf r l) (getD part at 0) .bytes);
       }
 
   pub more-length : length (take written room ++ (ys ++ drop (length room - written) (drop written room))) ≡ length room
