@@ -16,7 +16,7 @@ const USAGE: &str = "\
 bench run [flags]      measure and print Markdown tables
   --routeline PATH     the program (default target/bin/routeline under the repository root)
   --queries N          queries a file (default 300)
-  --out FILE           write the tables there as well
+  --out FILE           write the tables there as well; what stands above the line `<!-- tables -->` stays
 bench test             compare the fast engine with the independent model
 ";
 
@@ -176,12 +176,24 @@ fn run(arguments: &[String]) -> Result<(), String> {
     let text = report(&by_nodes, &by_arcs, queries);
     println!("{text}");
     if let Some(out) = out {
-        std::fs::write(&out, &text).map_err(|error| format!("{}: {error}", out.display()))?;
+        let page = with_words(&std::fs::read_to_string(&out).unwrap_or_default(), &text);
+        std::fs::write(&out, page).map_err(|error| format!("{}: {error}", out.display()))?;
     }
     Ok(())
 }
 
 // ---------------------------------------------------------------- the tables
+
+/// The line under which the tables stand in a page.
+const MARK: &str = "<!-- tables -->\n";
+
+/// The page with new tables: the words above the mark stay as they were.
+fn with_words(page: &str, tables: &str) -> String {
+    match page.split_once(MARK) {
+        Some((words, _)) => format!("{words}{MARK}\n{tables}"),
+        None => format!("# Benchmark\n\n{MARK}\n{tables}"),
+    }
+}
 
 /// A Markdown table, numbers to the right.
 fn table(head: &[&str], rows: Vec<Vec<String>>) -> String {
@@ -201,7 +213,7 @@ fn thousands(number: usize) -> String {
 
 fn report(by_nodes: &[Measured], by_arcs: &[Measured], queries: usize) -> String {
     let mut text = String::new();
-    text += "# Benchmark\n\n";
+    text += "## What was measured\n\n";
     text += &format!(
         "Road-like districts, {queries} queries a file, pattern 01. Times are processor time (user and system); \
          the time for reading the network alone (a file with one query, start equal to end) is taken off the queries' \
