@@ -8,7 +8,7 @@ use Rattle.frames.specs.declared.Frame.{Frame}
 use Rattle.frames.specs.declared.Frame.the-variants.{Size, Arc, TwoWay, Potentials, Query, Unsound}
 use Rattle.frames.proofs.Frame.{the-type}
 use Rattle.district.specs.File.{File, wrongCause, wrong, takeSize, takeArcs, takePotentials, takeQuery}
-use Rattle.district.specs.Reader.{NoArc}
+use Rattle.district.specs.Inner.{NoArc}
 
 abbrev pub tag : Frame → ℕ
 tag g = tagOf the-type g

@@ -1,5 +1,6 @@
 pub mod File
 pub mod Reader
+pub mod Inner
 pub mod ReaderLaws
 pub mod TakenLaws
 pub mod QueryLaws

@@ -34,7 +34,8 @@ use Rattle.frames.specs.Room.{laid, placed, counted, Laid, Placed}
 use borrow.Author.Tests.{eq-eqb, ne-eqb, le-ltb, le-leb}
 use Rattle.district.specs.declared.Reader.{Reader}
 use Rattle.district.specs.File.{workRoom, queryLines, queryOn, withQuery, wrong, taken, takeQuery}
-use Rattle.district.specs.Reader.{Lists as DistrictLists, toldBy, fileOf, Counted, Roomy, Kept, AllRead, Known}
+use Rattle.district.specs.Reader.{Lists as DistrictLists, toldBy, fileOf, Counted, Roomy, Kept}
+use Rattle.district.specs.Inner.{AllRead, Known}
 use Rattle.district.specs.ReaderLaws.{with-all}
 
 -- the lines of what a search found, from the path list that it leaves

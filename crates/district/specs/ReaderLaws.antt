@@ -20,7 +20,8 @@ use Rattle.frames.specs.RoomLaws.{nothing-placed}
 use Rattle.district.specs.declared.Reader.{Reader}
 use Rattle.district.specs.declared.Taken.{Taken}
 use Rattle.district.specs.File.{File, Step, step, beginning, lastLine, refused, takeSize, takeArcs, takePotentials, takeQuery, takeFrame, takeLine, brokenLine, holding, takeByte, owing, endOfInput}
-use Rattle.district.specs.Reader.{Lists, lists, toldBy, fileOf, Counted, Roomy, Kept, Beyond, Stepped, SteppedOver, SteppedArcs, SteppedPotentials, NotLast, PotentialsOpen, AllRead, startReader, ownVerdict, owesBy}
+use Rattle.district.specs.Reader.{Lists, lists, toldBy, fileOf, Counted, Roomy, Kept, Beyond, Stepped, startReader, ownVerdict}
+use Rattle.district.specs.Inner.{SteppedOver, SteppedArcs, SteppedPotentials, NotLast, PotentialsOpen, AllRead, owesBy}
 
 -- ---- the beginning
 pub start-file : (single : Bool) (line : ℕ) (l : Lists) → fileOf (startReader single line) l ≡ beginning single line

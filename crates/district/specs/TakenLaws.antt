@@ -19,7 +19,8 @@ use Rattle.frames.specs.Room.{Placed}
 use Rattle.frames.specs.RoomLaws.{nothing-placed}
 use Rattle.district.specs.declared.Reader.{Reader}
 use Rattle.district.specs.File.{GivenArc, addedArcs, wrong, taken, takeSize, takeArcs, takePotentials, withQuery, step, holding}
-use Rattle.district.specs.Reader.{Lists, lists, toldBy, fileOf, Counted, Roomy, Kept, Stepped, SteppedOver, SteppedArcs, SteppedPotentials, PotentialsOpen, Read, nextReader, ownVerdict, withVerdict}
+use Rattle.district.specs.Reader.{Lists, lists, toldBy, fileOf, Counted, Roomy, Kept, Stepped, ownVerdict}
+use Rattle.district.specs.Inner.{SteppedOver, SteppedArcs, SteppedPotentials, PotentialsOpen, Read, nextReader, withVerdict}
 use Rattle.district.specs.ReaderLaws.{positive, without-size, without-potentials, beyond-same, count-tails, count-forward}
 
 -- ---- lists that grow

@@ -9,7 +9,8 @@ ghost use Rattle.network.specs.Refusal.{firstRefusal, tripVerdict, queryVerdict
 ghost use Rattle.frames.specs.Frame.{patternOf};
 ghost use Rattle.frames.specs.Room.{Placed};
 ghost use Rattle.district.specs.File.{workRoom, queryLines, takeQuery};
-ghost use Rattle.district.specs.Reader.{lists, fileOf, Kept, Stepped, NotLast, AllRead, Known};
+ghost use Rattle.district.specs.Reader.{lists, fileOf, Kept, Stepped};
+ghost use Rattle.district.specs.Inner.{NotLast, AllRead, Known};
 use crate::MOST_NODES;
 use crate::Reader;
 use crate::Taken;

@@ -6,7 +6,8 @@ ghost use Prim.Native.Nat.{_+_, _≤_};
 ghost use lib.ListN.{length};
 ghost use Rattle.frames.specs.Room.{Placed, Laid};
 ghost use Rattle.district.specs.File.{takeByte, displayAnswer};
-ghost use Rattle.district.specs.Reader.{mostBytes, refusalBytes, Roomy, startReader, lists, fileOf, Kept, Stepped, Reached, Ended, owesBy};
+ghost use Rattle.district.specs.Reader.{mostBytes, refusalBytes, Roomy, startReader, lists, fileOf, Kept, Stepped, Reached, Ended};
+ghost use Rattle.district.specs.Inner.{owesBy};
 
 mod answer;
 mod frame;

@@ -1,7 +1,7 @@
 -- `owes` meets its contract: each test that holds is the first that does. Assumes nothing.
 use borrow.Author.Needs.{needs}
 use borrow.Author.Tests.{eq-eqb, ne-eqb, lt-ltb, le-ltb}
-use Rattle.district.specs.Reader.{owesBy}
+use Rattle.district.specs.Inner.{owesBy}
 use Rattle.district.proofs.owes.Statement.{statement}
 use Rattle.district.proofs.owes.Tie as tie
 

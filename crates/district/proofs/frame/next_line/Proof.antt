@@ -1,7 +1,7 @@
 -- `frame::next_line` meets its contract: the line's number is one more, and nothing of the line is held. Assumes nothing.
 use mathlib.Core.Path.{refl}
 use borrow.Author.Needs.{needs}
-use Rattle.district.specs.Reader.{nextReader}
+use Rattle.district.specs.Inner.{nextReader}
 use Rattle.district.proofs.frame.next_line.Statement.{statement}
 use Rattle.district.proofs.frame.next_line.Tie as tie
 

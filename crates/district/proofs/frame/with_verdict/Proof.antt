@@ -1,6 +1,6 @@
 -- `frame::with_verdict` meets its contract: the other fields stay. Assumes nothing.
 use mathlib.Core.Path.{refl}
-use Rattle.district.specs.Reader.{withVerdict}
+use Rattle.district.specs.Inner.{withVerdict}
 use Rattle.district.proofs.frame.with_verdict.Statement.{statement}
 use Rattle.district.proofs.frame.with_verdict.Tie as tie
 
