@@ -1,7 +1,7 @@
 -- `run_turns` meets its contract: before each turn the lists stand for the state after as many turns as were made; a search
 -- that goes on has made fewer turns than there are nodes. Assumes nothing.
 use Prim.Native.Nat.{_≤_, _-_}
-use mathlib.Core.Path.{refl}
+use mathlib.Core.Path.{refl, sym, _∙_}
 use native.Mathlib.Omega.{arith}
 use lib.ListN.{length}
 use borrow.Author.Needs.{needs}
@@ -60,37 +60,37 @@ turns-again c =
     )
 
 same-length : tie.Need-same-length Inv-turns μ-turns
-same-length c = search needs
+same-length c = c .before .before .turns .inv .1 .labels-long ∙ sym (c .before .before .before .before .before .before .before .before .before .before .before .before .pre .1 .0 .labels-long)
 
 same-length-2 : tie.Need-same-length-2 Inv-turns μ-turns
-same-length-2 c = search needs
+same-length-2 c = c .before .before .turns .inv .1 .neighbours-long ∙ sym (c .before .before .before .before .before .before .before .before .before .before .before .before .pre .1 .0 .neighbours-long)
 
 same-length-3 : tie.Need-same-length-3 Inv-turns μ-turns
-same-length-3 c = search needs
+same-length-3 c = c .before .before .turns .inv .1 .theirs-long ∙ sym (c .before .before .before .before .before .before .before .before .before .before .before .before .pre .1 .0 .theirs-long)
 
 same-length-4 : tie.Need-same-length-4 Inv-turns μ-turns
-same-length-4 c = search needs
+same-length-4 c = c .before .before .turns .inv .1 .beyond-long ∙ sym (c .before .before .before .before .before .before .before .before .before .before .before .before .pre .1 .0 .beyond-long)
 
 same-length-5 : tie.Need-same-length-5 Inv-turns μ-turns
-same-length-5 c = search needs
+same-length-5 c = c .before .before .turns .inv .1 .states-long ∙ sym (c .before .before .before .before .before .before .before .before .before .before .before .before .pre .1 .0 .states-long)
 
 returns : tie.Need-returns Inv-turns μ-turns
 returns c = over-at-start (c .before .before .before .before .before .before .before .before .before .before .before .before .pre .0) (c .before .before .turns .inv .2) (c .enum-told .given .1) (c .before .before .turns .inv .0)
 
 same-length-6 : tie.Need-same-length-6 Inv-turns μ-turns
-same-length-6 c = search needs
+same-length-6 c = c .before .before .before .before .before .turns .inv .1 .labels-long ∙ sym (c .before .before .before .before .before .before .before .before .before .before .before .before .before .before .before .pre .1 .0 .labels-long)
 
 same-length-7 : tie.Need-same-length-7 Inv-turns μ-turns
-same-length-7 c = search needs
+same-length-7 c = c .before .before .before .before .before .turns .inv .1 .neighbours-long ∙ sym (c .before .before .before .before .before .before .before .before .before .before .before .before .before .before .before .pre .1 .0 .neighbours-long)
 
 same-length-8 : tie.Need-same-length-8 Inv-turns μ-turns
-same-length-8 c = search needs
+same-length-8 c = c .before .before .before .before .before .turns .inv .1 .theirs-long ∙ sym (c .before .before .before .before .before .before .before .before .before .before .before .before .before .before .before .pre .1 .0 .theirs-long)
 
 same-length-9 : tie.Need-same-length-9 Inv-turns μ-turns
-same-length-9 c = search needs
+same-length-9 c = c .before .before .before .before .before .turns .inv .1 .beyond-long ∙ sym (c .before .before .before .before .before .before .before .before .before .before .before .before .before .before .before .pre .1 .0 .beyond-long)
 
 same-length-10 : tie.Need-same-length-10 Inv-turns μ-turns
-same-length-10 c = search needs
+same-length-10 c = c .before .before .before .before .before .turns .inv .1 .states-long ∙ sym (c .before .before .before .before .before .before .before .before .before .before .before .before .before .before .before .pre .1 .0 .states-long)
 
 returns-2 : tie.Need-returns-2 Inv-turns μ-turns
 returns-2 c = over-at-end (c .before .before .before .before .before .before .before .before .before .before .before .before .before .before .before .pre .0) (c .before .before .before .before .before .turns .inv .2) (c .enum-told2 .given .1) (c .before .before .before .before .before .turns .inv .0)

@@ -138,10 +138,10 @@ arcs-again-4 c =
     )
 
 same-length : tie.Need-same-length Inv-arcs μ-arcs
-same-length c = search needs
+same-length c = c .before .arcs .inv .3
 
 same-length-2 : tie.Need-same-length-2 Inv-arcs μ-arcs
-same-length-2 c = search needs
+same-length-2 c = c .before .arcs .inv .4
 
 returns : tie.Need-returns Inv-arcs μ-arcs
 unfolding scan arcsOf
