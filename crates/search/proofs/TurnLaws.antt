@@ -22,6 +22,13 @@ use Rattle.search.specs.declared.turn.Best.{Best}
 use Rattle.search.specs.Turn.{considered, reach, took, taken}
 use Rattle.network.proofs.SignedLocals.{back32, back64}
 
+-- a place below a count, which is told in two ways
+pub within : {a m n : ℕ} → a < m → m ≡ n → a < n
+within h e = omega arith
+
+pub one-on : {a m n : ℕ} → a < m → m ≡ n → a + 1 ≤ n
+one-on h e = omega arith
+
 -- an entry that is there does not depend on what stands for a missing one
 pub entry-there : {A : Type 0} (l : List A) (v : ℕ) (a b : A) → v < length l → getD l v a ≡ getD l v b
 entry-there [] v a b h = absurd (omega arith)
