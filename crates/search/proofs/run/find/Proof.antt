@@ -63,12 +63,12 @@ turns-holds c =
     let k = c .before .before .before .before .before .before .before .before .before .before .before .begin .kept .1 .1 .1 .1 in (
       refl,
       rw (k .1 .1 .1 .1 .0)
-      (record {
-        few = omega arith;
-        sound = c .before .before .before .before .before .before .before .before .before .before .before .before .before .before .before .before .before .before .before .before .before .before .before .before .before .before .pre .0;
-        long = kept-long (c .before .before .before .before .before .before .before .before .before .before .before .before .before .before .before .before .before .before .before .before .before .before .before .before .before .before .pre .1) (k .0) (k .1 .0) (k .1 .1 .0) (k .1 .1 .1 .0) (k .1 .1 .1 .1 .0);
-        way = begun-underway (c .before .before .before .before .before .before .before .before .before .before .before .before .before .before .before .before .before .before .before .before .before .before .before .before .before .before .pre .0) (c .before .before .before .before .before .before .before .before .before .before .before .begin .ensures);
-      }),
+          (record {
+            few = omega arith;
+            sound = c .before .before .before .before .before .before .before .before .before .before .before .before .before .before .before .before .before .before .before .before .before .before .before .before .before .before .pre .0;
+            long = kept-long (c .before .before .before .before .before .before .before .before .before .before .before .before .before .before .before .before .before .before .before .before .before .before .before .before .before .before .pre .1) (k .0) (k .1 .0) (k .1 .1 .0) (k .1 .1 .1 .0) (k .1 .1 .1 .1 .0);
+            way = begun-underway (c .before .before .before .before .before .before .before .before .before .before .before .before .before .before .before .before .before .before .before .before .before .before .before .before .before .before .pre .0) (c .before .before .before .before .before .before .before .before .before .before .before .begin .ensures);
+          }),
     )
 
 enum-known-own : tie.Need-enum-known-own Inv-turns μ-turns
