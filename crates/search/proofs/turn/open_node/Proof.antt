@@ -64,7 +64,7 @@ arcs-less-2 : tie.Need-arcs-less-2 Inv-arcs μ-arcs
 arcs-less-2 c = search needs
 
 arcs-again-2 : tie.Need-arcs-again-2 Inv-arcs μ-arcs
-arcs-again-2 c = (one-on (c .before .before .before .before .before .arcs-test .taken) (c .before .before .before .before .before .before .arcs .inv .1), c .before .before .before .before .before .before .arcs .inv .1, c .before .before .before .before .before .before .arcs .inv .2, c .before .before .before .before .before .before .arcs .inv .3, c .before .before .before .before .before .before .arcs .inv .4, scan-left _ _ _ _ _ _ _ _ _ _ (c .before .before .before .before .before .before .arcs .inv .5) (within (c .before .before .before .before .before .arcs-test .taken) (c .before .before .before .before .before .before .arcs .inv .1)) (c .before .before .before .if1 .left) (c .if2 .taken))
+arcs-again-2 c = (one-on (c .before .before .before .before .before .arcs-test .taken) (c .before .before .before .before .before .before .arcs .inv .1), c .before .before .before .before .before .before .arcs .inv .1, c .before .before .before .before .before .before .arcs .inv .2, c .before .before .before .before .before .before .arcs .inv .3, c .before .before .before .before .before .before .arcs .inv .4, scan-left _ _ _ _ _ _ _ _ _ _ (c .before .before .before .before .before .before .arcs .inv .5) (within (c .before .before .before .before .before .arcs-test .taken) (c .before .before .before .before .before .before .arcs .inv .1)) (c .before .before .before .if1 .left) (λ e. omega (arith, e, c .if2 .taken)))
 
 mul-l : tie.Need-mul-l Inv-arcs μ-arcs
 mul-l c = search needs
