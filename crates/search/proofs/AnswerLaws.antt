@@ -3,22 +3,27 @@ use mathlib.Core.Path.{_≡_, refl, sym, ap, _∙_}
 use mathlib.Core.List.{List, _++_}
 use Prim.Native.Nat.{ℕ, _≤_, _<_}
 use native.Mathlib.Omega.{arith}
-use lib.ListN.{length, take, drop}
+use lib.ListN.{length, take, drop, length-append, length-drop}
 use lib.Seq.{length-take-le}
 use borrow.Author.Tests.{lt-ltb, le-ltb}
 use Rattle.network.specs.declared.Answer.{Answer}
-use Rattle.network.specs.declared.Answer.the-variants.{Route, NoRoute}
+use Rattle.network.specs.declared.Answer.the-variants.{Route, NoRoute, Refused}
+use Rattle.network.specs.declared.Cause.{Cause}
 use Rattle.network.specs.declared.Figures.{Figures}
+use Rattle.network.specs.declared.Verdict.the-variants.{Accepted, Refused as Refusal}
 use Rattle.network.specs.Given.{Enough, Sound}
 use Rattle.network.specs.Network.{start, end}
 use Rattle.network.specs.Query.{Query}
+use Rattle.network.specs.Refusal.{queryVerdict}
 use Rattle.nba.specs.State.{missing}
 use Rattle.nba.specs.Search.{endState}
 use Rattle.nba.specs.Result.{pathOf, figuresAt, answerAt, found}
 use Rattle.nba.specs.CodeLaws.{end-state-tabled}
 use Rattle.nba.specs.Theorems.{path-fits}
 use Rattle.search.specs.declared.turn.Best.{Best}
-use Rattle.search.specs.Promise.{Lists, lists, lengths, shownPath, searched, left}
+use Rattle.search.specs.DemandLaws.{refused-left, accepted-left, demand-1-kept, demand-2-kept, demand-3-kept}
+use Rattle.search.specs.Demands.{Demand1, Demand2, Demand3}
+use Rattle.search.specs.Promise.{Lists, lists, lengths, shownPath, searched, left, queried}
 use Rattle.search.specs.Run.{Filled, Long, Tables, tables, tablesOf}
 use Rattle.search.specs.Tables.{figuresIn, pathThrough, atFront, PathRoom}
 use Rattle.search.specs.TablesLaws.{figuresAt-is, pathOf-is, nodes-by-entry}
@@ -101,6 +106,10 @@ cut-long {n} l e = record {
   states-long = length-take-le n (l .states) (e .for-states);
 }
 
+-- what is put before the entries beyond is as long as what stood there, so the whole list is as long as it was
+pub cut-same : (n : ℕ) (l cut : List ℕ) → n ≤ length l → length cut ≡ length (take n l) → length (cut ++ drop n l) ≡ length l
+cut-same n l cut e h = simp (length-append, length-drop) (omega (arith, e, h, length-take-le n l e))
+
 -- the end state before what stood beyond it is what the search leaves
 pub cut-left : (q : Query) (before : Lists) {r : Answer} {sl sn el en states path : List ℕ} → r ≡ found q → Filled (endState q) sl sn el en states
     → path ≡ atFront (shownPath q (endState q)) (before .path) → let n = q .network .nodes in
@@ -110,3 +119,19 @@ unfolding searched atFront
 cut-left q before a f p =
     let t = end-state-tabled q in
     rw (a, f .start-labels, f .start-neighbours, f .end-labels, f .end-neighbours, f .states, p, t .labels-long start, t .neighbours-long start, t .labels-long end, t .neighbours-long end, t .states-long)
+
+-- ---- the whole query
+-- an answer and the lists that a query leaves, with the demands
+abbrev pub Kept : Query → Lists → Lists → Answer → Type 0
+Kept q before after r = (left r after ≡ queried q before) × (Demand1 q before after r × (Demand2 q after r × Demand3 q after r))
+
+kept : (q : Query) (before after : Lists) (r : Answer) → left r after ≡ queried q before → Kept q before after r
+kept q before after r e = (e, (demand-1-kept q before after r e, (demand-2-kept q before after r e, demand-3-kept q before after r e)))
+
+-- a refusal leaves the lists as they are
+pub kept-refused : (q : Query) (l : Lists) (c : Cause) → queryVerdict q (lengths l) ≡ Refusal c → Kept q l l (Refused c)
+kept-refused q l c v = kept q l l (Refused c) (sym (refused-left q l v))
+
+-- an accepted query leaves what its search leaves
+pub kept-accepted : (q : Query) (before after : Lists) (r : Answer) → queryVerdict q (lengths before) ≡ Accepted → left r after ≡ left (found q) (searched q before) → Kept q before after r
+kept-accepted q before after r v e = kept q before after r (e ∙ sym (accepted-left q before v))

@@ -329,3 +329,32 @@ module _ {q : Query} (sound : Sound q) {sl sn el en states : List ℕ} {p : Prog
 pub ended-last : (q : Query) {t : Tables} → (q .start ≡ q .end → ⊥) → t ≡ tablesOf (lastState q) → t ≡ tablesOf (endState q)
 unfolding endState
 ended-last q h e = rw (ne-eqb _ _ h) e
+
+-- ---- the loop of turns
+-- before a turn: i turns were made, and the lists stand for the state after them
+pub record Going (q : Query) (i : ℕ) (sl sn el en states : List ℕ) (p : Progress) : Type 0 where
+  pub few : i ≤ q .network .nodes
+  pub sound : Sound q
+  pub long : Long (q .network .nodes) sl sn el en states
+  pub way : Underway q i (standingOf start sl sn el en states p) p
+
+module _ {q : Query} {i : ℕ} {sl sn el en states : List ℕ} {p : Progress} (g : Going q i sl sn el en states p) where
+  -- both sides take a node: after the turn one turn more was made
+  pub going-on : (q′ : Query) (sl′ sn′ el′ en′ states′ : List ℕ) {r : Progress} {a b : ℕ} {k j : ℤ} → q ≡ q′ → p .own ≡ Node a k → p .other ≡ Node b j
+      → length sl′ ≡ length sl → length sn′ ≡ length sn → length el′ ≡ length el → length en′ ≡ length en → length states′ ≡ length states
+      → standingOf start sl′ sn′ el′ en′ states′ r ≡ turnOf q i (standingOf start sl sn el en states p) → Foreseen q (standingOf start sl′ sn′ el′ en′ states′ r) r
+      → Going q′ (i + 1) sl′ sn′ el′ en′ states′ r
+  going-on q′ sl′ sn′ el′ en′ states′ e own beyond l1 l2 l3 l4 l5 t f =
+      rw (sym e) (record {
+        few = omega (arith, turns-left (g .sound) (g .way) own beyond);
+        sound = g .sound;
+        long = kept-long (g .long) l1 l2 l3 l4 l5;
+        way = underway-next (g .sound) (g .way) own beyond t f;
+      })
+
+  -- a side has none: the search has ended
+  pub over-own : (q′ : Query) → q ≡ q′ → (q′ .start ≡ q′ .end → ⊥) → p .own ≡ Nothing → tablesOf (standingOf start sl sn el en states p) ≡ tablesOf (endState q′)
+  over-own q′ e h own = ended-last q′ h (rw e at (over-at-start (g .sound) (g .way) own (g .few)))
+
+  pub over-other : (q′ : Query) → q ≡ q′ → (q′ .start ≡ q′ .end → ⊥) → p .other ≡ Nothing → tablesOf (standingOf start sl sn el en states p) ≡ tablesOf (endState q′)
+  over-other q′ e h beyond = ended-last q′ h (rw e at (over-at-end (g .sound) (g .way) beyond (g .few)))

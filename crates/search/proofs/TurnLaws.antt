@@ -1,5 +1,5 @@
 -- What the code's single steps do to the lists is what the definitions of a turn say. Assumes nothing.
-use mathlib.Core.Path.{_≡_, refl, sym, _∙_}
+use mathlib.Core.Path.{_≡_, refl, sym, ap, _∙_}
 use mathlib.Core.Bool.{Bool, true, false, cond, _&&_}
 use mathlib.Core.List.{List, [], _∷_}
 use Prim.Native.Nat.{ℕ, zero, suc, _+_, _≤_, _<_, _^_}
@@ -19,8 +19,15 @@ use Rattle.nba.specs.Search.{Candidate as Chosen, leastBelow, rejects, Reach, l
 use Rattle.nba.specs.Scan.{scan}
 use Rattle.nba.specs.CodeLaws.{scan-next}
 use Rattle.search.specs.declared.turn.Best.{Best}
-use Rattle.search.specs.Turn.{considered, reach, took, taken}
+use Rattle.search.specs.Turn.{Took, considered, reach, took, taken}
 use Rattle.network.proofs.SignedLocals.{back32, back64}
+
+-- a place below a count, which is told in two ways
+pub within : {a m n : ℕ} → a < m → m ≡ n → a < n
+within h e = omega arith
+
+pub one-on : {a m n : ℕ} → a < m → m ≡ n → a + 1 ≤ n
+one-on h e = omega arith
 
 -- an entry that is there does not depend on what stands for a missing one
 pub entry-there : {A : Type 0} (l : List A) (v : ℕ) (a b : A) → v < length l → getD l v a ≡ getD l v b
@@ -118,3 +125,13 @@ module _ (g : Network) (own other : List ℤ) (theirs labels neighbours states :
       → record { reached = r; states = set states u opened } ≡ taken g own other theirs u target floor opened (took labels neighbours states best)
   unfolding taken
   taken-opens h e = rw (h, e)
+
+-- ---- the other side's floor
+-- a floor read back from its bits is as small
+pub back-small : (z : ℤ) → mag z < 2 ^ 40 → mag (toZ w64 (ofZ w64 z)) < 2 ^ 40
+back-small z h = rw (back64 z (omega (arith, h))) h
+
+-- the same floor gives the same turn
+pub taken-beyond : (g : Network) (own other : List ℤ) (theirs : List ℕ) (u target opened : ℕ) (t : Took) {after : Took} {z w : ℤ} → z ≡ w
+    → after ≡ taken g own other theirs u target z opened t → after ≡ taken g own other theirs u target w opened t
+taken-beyond g own other theirs u target opened t e a = a ∙ ap (λ y. taken g own other theirs u target y opened t) e

@@ -6,7 +6,7 @@ ghost use Rattle.network.specs.Given.{Sound};
 ghost use Rattle.network.specs.Network.{network};
 ghost use Rattle.network.specs.Query.{query};
 ghost use Rattle.nba.specs.Search.{endState};
-ghost use Rattle.search.specs.Run.{Beginning, Begun, Foreseen, Long, Taking, Underway, lastState, standing, swappedOf, tables, tablesOf, turnOf};
+ghost use Rattle.search.specs.Run.{Beginning, Begun, Foreseen, Long, Taking, standing, swappedOf, tables, tablesOf, turnOf};
 use crate::tables;
 use crate::turn;
 use crate::turn::Best;
@@ -127,8 +127,9 @@ fn begin(
     }
 }
 
-// Turns are made until a side has no labelled undecided node: at most as many as there are nodes.
-fn run_turns(
+// The tables at the end of a search. Start equal to end is a route of length 0 with the tables as at the beginning.
+// Otherwise turns are made until a side has no labelled undecided node: at most as many as there are nodes.
+pub fn find(
     tails: &[u16],
     heads: &[u16],
     weights: &[u32],
@@ -142,14 +143,28 @@ fn run_turns(
     end_labels: &mut [u32],
     end_neighbours: &mut [u16],
     states: &mut [u8],
-    first: Progress,
 ) -> Best
     requires { ⌜ Sound (query (network (length (now states)) (now tails) (now heads) (now weights)) (now forward) (now backward) start end (now pattern)) ⌝ }
     requires { ⌜ Long (length (now states)) (now «start_labels») (now «start_neighbours») (now «end_labels») (now «end_neighbours») (now states) ⌝ }
-    requires { ⌜ Underway (query (network (length (now states)) (now tails) (now heads) (now weights)) (now forward) (now backward) start end (now pattern)) 0 (standing (now «start_labels») (now «start_neighbours») (now «end_labels») (now «end_neighbours») (now states) first) first ⌝ }
-    ensures { λ r. ⌜ tables (now («start_labels» .exit)) (now («start_neighbours» .exit)) (now («end_labels» .exit)) (now («end_neighbours» .exit)) (now (states .exit)) r ≡ tablesOf (lastState (query (network (length (now (states .entry))) (now (tails .entry)) (now (heads .entry)) (now (weights .entry))) (now (forward .entry)) (now (backward .entry)) start end (now (pattern .entry)))) ⌝ }
+    ensures { λ r. ⌜ tables (now («start_labels» .exit)) (now («start_neighbours» .exit)) (now («end_labels» .exit)) (now («end_neighbours» .exit)) (now (states .exit)) r ≡ tablesOf (endState (query (network (length (now (states .entry))) (now (tails .entry)) (now (heads .entry)) (now (weights .entry))) (now (forward .entry)) (now (backward .entry)) start end (now (pattern .entry)))) ⌝ }
 {
-    let mut p = first;
+    let mut p = begin(
+        forward,
+        backward,
+        start,
+        end,
+        start_labels,
+        start_neighbours,
+        end_labels,
+        end_neighbours,
+        states,
+    );
+    if start == end {
+        return Best {
+            length: 0,
+            node: start,
+        };
+    }
     let mut turns: usize = 0;
     'turns: loop {
         let own = p.own;
@@ -185,59 +200,4 @@ fn run_turns(
         length: p.length,
         node: p.meeting,
     }
-}
-
-// The tables at the end of a search. Start equal to end is a route of length 0 with the tables as at the beginning.
-pub fn find(
-    tails: &[u16],
-    heads: &[u16],
-    weights: &[u32],
-    forward: &[i32],
-    backward: &[i32],
-    start: u16,
-    end: u16,
-    pattern: &[u8],
-    start_labels: &mut [u32],
-    start_neighbours: &mut [u16],
-    end_labels: &mut [u32],
-    end_neighbours: &mut [u16],
-    states: &mut [u8],
-) -> Best
-    requires { ⌜ Sound (query (network (length (now states)) (now tails) (now heads) (now weights)) (now forward) (now backward) start end (now pattern)) ⌝ }
-    requires { ⌜ Long (length (now states)) (now «start_labels») (now «start_neighbours») (now «end_labels») (now «end_neighbours») (now states) ⌝ }
-    ensures { λ r. ⌜ tables (now («start_labels» .exit)) (now («start_neighbours» .exit)) (now («end_labels» .exit)) (now («end_neighbours» .exit)) (now (states .exit)) r ≡ tablesOf (endState (query (network (length (now (states .entry))) (now (tails .entry)) (now (heads .entry)) (now (weights .entry))) (now (forward .entry)) (now (backward .entry)) start end (now (pattern .entry)))) ⌝ }
-{
-    let first = begin(
-        forward,
-        backward,
-        start,
-        end,
-        start_labels,
-        start_neighbours,
-        end_labels,
-        end_neighbours,
-        states,
-    );
-    if start == end {
-        return Best {
-            length: 0,
-            node: start,
-        };
-    }
-    run_turns(
-        tails,
-        heads,
-        weights,
-        forward,
-        backward,
-        start,
-        end,
-        pattern,
-        start_labels,
-        start_neighbours,
-        end_labels,
-        end_neighbours,
-        states,
-        first,
-    )
 }

@@ -22,6 +22,9 @@ const STACK: usize = 64 << 20;
 /// A sixteenth of the files goes in in small pieces, a sixteenth is looked at live.
 const SOME: u64 = 16;
 
+/// A run with faults ends once each of them was seen in this many files.
+const ENOUGH: u64 = 3;
+
 pub struct Plan {
     pub seeds: Range<u64>,
     /// `None` compares the model with itself (only of use with a fault).
@@ -48,6 +51,8 @@ struct Counts {
     rooms: u64,
     /// In how many files each of the plan's faults was seen.
     seen: Vec<u64>,
+    /// The lowest seed whose file shows it.
+    first: Vec<Option<u64>>,
 }
 
 /// One difference: where, what, and the bytes.
@@ -61,12 +66,17 @@ struct Difference {
 }
 
 /// Runs the plan; true if it went as it should (no difference; or, with faults,
-/// every fault seen).
+/// every fault seen). Seeds are taken in order, and a file that was begun is
+/// finished, so the lowest seed that shows a fault does not hang on the threads.
 pub fn run(plan: &Plan) -> bool {
     let began = Instant::now();
     let next = AtomicU64::new(plan.seeds.start);
     let stop = AtomicBool::new(false);
-    let counts = Mutex::new(Counts { seen: vec![0; plan.faults.len()], ..Counts::default() });
+    let counts = Mutex::new(Counts {
+        seen: vec![0; plan.faults.len()],
+        first: vec![None; plan.faults.len()],
+        ..Counts::default()
+    });
     let found: Mutex<Option<Box<Difference>>> = Mutex::new(None);
     let work = || loop {
         let seed = next.fetch_add(1, Ordering::SeqCst);
@@ -76,6 +86,9 @@ pub fn run(plan: &Plan) -> bool {
         if let Err(difference) = one_seed(plan, seed, &counts) {
             stop.store(true, Ordering::SeqCst);
             found.lock().unwrap().get_or_insert(difference);
+        }
+        if !plan.faults.is_empty() && counts.lock().unwrap().seen.iter().all(|&seen| seen >= ENOUGH) {
+            stop.store(true, Ordering::SeqCst);
         }
     };
     thread::scope(|scope| {
@@ -97,7 +110,7 @@ fn one_seed(plan: &Plan, seed: u64, counts: &Mutex<Counts>) -> Result<(), Box<Di
         Box::new(Difference { seed, shape, what, file, expected: expected.to_vec(), got })
     };
     if !plan.faults.is_empty() {
-        return with_faults(plan, &made.bytes, &expected, counts)
+        return with_faults(plan, seed, &made.bytes, &expected, counts)
             .map_err(|what| differs(what, &expected.output, Vec::new()));
     }
     own_tests(seed, &expected, None).map_err(|what| differs(what, &expected.output, Vec::new()))?;
@@ -167,7 +180,7 @@ fn against_program(
 
 /// Counts for each fault whether this file shows it: the faulty model's answers
 /// beside the program's, or beside the model's own without a fault.
-fn with_faults(plan: &Plan, file: &[u8], sound: &FileAnswer, counts: &Mutex<Counts>) -> Result<(), String> {
+fn with_faults(plan: &Plan, seed: u64, file: &[u8], sound: &FileAnswer, counts: &Mutex<Counts>) -> Result<(), String> {
     let reference = match (&plan.routeline, plan.with_routeline) {
         (Some(path), true) => program::run(path, file).map_err(|(what, _)| what)?,
         _ => sound.output.clone(),
@@ -179,8 +192,11 @@ fn with_faults(plan: &Plan, file: &[u8], sound: &FileAnswer, counts: &Mutex<Coun
     }
     let mut counts = counts.lock().unwrap();
     count_file(&mut counts, sound);
-    for (total, one) in counts.seen.iter_mut().zip(seen) {
-        *total += one;
+    for (fault, one) in seen.into_iter().enumerate() {
+        if one > 0 {
+            counts.first[fault] = Some(counts.first[fault].map_or(seed, |first| first.min(seed)));
+        }
+        counts.seen[fault] += one;
     }
     Ok(())
 }
@@ -220,8 +236,9 @@ fn report(plan: &Plan, counts: &Counts, found: Option<&Difference>, began: Insta
         "routeline: {} files whole, {} in small pieces, {} live; display: {} rooms",
         counts.compared_with_program, counts.in_pieces, counts.live, counts.rooms
     );
-    for (fault, seen) in plan.faults.iter().zip(&counts.seen) {
-        println!("fault {}: seen in {seen} of {files} files", fault.name());
+    for ((fault, seen), first) in plan.faults.iter().zip(&counts.seen).zip(&counts.first) {
+        let first = first.map_or(String::new(), |seed| format!(", first at seed {seed}"));
+        println!("fault {}: seen in {seen} of {files} files{first}", fault.name());
     }
     if let Some(difference) = found {
         leave_behind(plan, difference);

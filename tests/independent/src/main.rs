@@ -19,7 +19,7 @@ independent check [flags]     compare routeline (and the display entry) with the
   --fresh N                   N fresh seeds, counted from the time
   --routeline PATH            the program (default target/bin/routeline under the repository root)
   --fault NAME                a deliberate fault in the model, or `all`; exit code 0 if it is found
-                              (README.md lists the names)
+                              (README.md lists the names); ends once it was seen in 3 files
   --self                      compare the model with itself instead of with routeline
   --without WHAT              leave out `routeline`, `display` or `live`
   --out DIR                   where a file with a difference is left (default target/independent)

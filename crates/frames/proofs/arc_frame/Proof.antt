@@ -1,13 +1,28 @@
 -- `frames::arc_frame` meets its contract: it reads the definition's fields in a line of the definition's length. Assumes nothing.
+use mathlib.Core.Path.{_≡_}
+use mathlib.Core.Bool.{Bool, true, false}
+use mathlib.Core.List.{List}
+use Prim.Native.Nat.{ℕ}
+use lib.ListN.{length}
 use borrow.Author.Tests.{eq-eqb, ne-eqb}
-use Rattle.frames.specs.Frame.{arcOf}
+use Rattle.frames.specs.Digits.{numberAt}
+use Rattle.frames.specs.Frame.{arcFrame, arcOf}
+use Rattle.frames.specs.declared.Frame.the-variants.{Unsound}
 use borrow.Author.Needs.{needs}
 use Rattle.frames.proofs.arc_frame.Statement.{statement}
 use Rattle.frames.proofs.arc_frame.Tie as tie
 
-returns : tie.Need-returns
+-- a line of another length is no sound frame, and one of this length has these fields
+no-arc : (b : Bool) (s : List ℕ) → (length s ≡ 18 → ⊥) → Unsound ≡ arcOf b s
 unfolding arcOf
-returns c = simp (ne-eqb _ _ (c .if1 .taken))
+no-arc b s l = rw (ne-eqb _ _ l)
+
+an-arc : (b : Bool) (s : List ℕ) {t h w : ℕ} → length s ≡ 18 → t ≡ numberAt s 2 4 → h ≡ numberAt s 6 4 → w ≡ numberAt s 10 8 → arcFrame b t h w ≡ arcOf b s
+unfolding arcOf
+an-arc b s l t h w = rw (eq-eqb _ _ l, t, h, w)
+
+returns : tie.Need-returns
+returns c = no-arc (c .before .before .args .both) (c .before .before .args .line .now) (c .if1 .taken)
 
 number-requires : tie.Need-number-requires
 number-requires c κs = search needs
@@ -25,12 +40,10 @@ number-requires-3 : tie.Need-number-requires-3
 number-requires-3 c κs = search needs
 
 returns-2 : tie.Need-returns-2
-unfolding arcOf
-returns-2 c = rw (eq-eqb _ _ (c .before .before .before .before .if1 .left)) (cc)
+returns-2 c = rw (c .if2 .taken) (an-arc true (c .before .before .before .before .before .before .args .line .now) (c .before .before .before .before .if1 .left) (c .before .before .before .number .ensures .0) (c .before .before .number2 .ensures .0) (c .before .number3 .ensures .0))
 
 returns-3 : tie.Need-returns-3
-unfolding arcOf
-returns-3 c = rw (eq-eqb _ _ (c .before .before .before .before .if1 .left)) (cc)
+returns-3 c = rw (c .if2 .left) (an-arc false (c .before .before .before .before .before .before .args .line .now) (c .before .before .before .before .if1 .left) (c .before .before .before .number .ensures .0) (c .before .before .number2 .ensures .0) (c .before .number3 .ensures .0))
 
 pub arc-frame-spec : {M : Type 1} → statement M
 arc-frame-spec =

@@ -1,17 +1,31 @@
 -- `frames::potentials_frame` meets its contract: it reads the definition's fields in a line of the definition's length. Assumes nothing.
 use mir.Syntax.{w32}
-use mir.Val.{toZ, ofZ}
 use mir.Facts.{toZ-ofZ}
-use mathlib.Core.Path.{_≡_}
+use mathlib.Core.Path.{_≡_, ap, _∙_}
+use mathlib.Core.List.{List}
+use Prim.Native.Nat.{ℕ}
+use lib.IntN.{ℤ}
+use lib.ListN.{length}
 use borrow.Author.Tests.{eq-eqb, ne-eqb}
+use Rattle.frames.specs.Digits.{numberAt}
+use Rattle.frames.specs.Signed.{signedOf}
 use Rattle.frames.specs.Frame.{potentialsOf}
+use Rattle.frames.specs.declared.Frame.the-variants.{Potentials, Unsound}
 use borrow.Author.Needs.{needs}
 use Rattle.frames.proofs.potentials_frame.Statement.{statement}
 use Rattle.frames.proofs.potentials_frame.Tie as tie
 
-returns : tie.Need-returns
+-- a line of another length is no sound frame, and one of this length has these fields
+no-potentials : (s : List ℕ) → (length s ≡ 22 → ⊥) → Unsound ≡ potentialsOf s
 unfolding potentialsOf
-returns c = simp (ne-eqb _ _ (c .if1 .taken))
+no-potentials s l = rw (ne-eqb _ _ l)
+
+some-potentials : (s : List ℕ) {n : ℕ} {h k : ℤ} → length s ≡ 22 → n ≡ numberAt s 2 4 → h ≡ signedOf (numberAt s 6 8) → k ≡ signedOf (numberAt s 14 8) → Potentials n h k ≡ potentialsOf s
+unfolding potentialsOf
+some-potentials s l n h k = rw (eq-eqb _ _ l, n, h, k)
+
+returns : tie.Need-returns
+returns c = no-potentials (c .before .before .args .line .now) (c .if1 .taken)
 
 number-requires : tie.Need-number-requires
 number-requires c κs = search needs
@@ -32,11 +46,10 @@ signed-requires-2 : tie.Need-signed-requires-2
 signed-requires-2 c κs = search needs
 
 returns-2 : tie.Need-returns-2
-unfolding potentialsOf
 returns-2 c =
-    let h : toZ w32 (ofZ w32 (c .before .before .signed .result)) ≡ c .before .before .signed .result = toZ-ofZ {w = w32} (record { sfits = c .before .before .signed .ok }) in
-    let k : toZ w32 (ofZ w32 (c .signed2 .result)) ≡ c .signed2 .result = toZ-ofZ {w = w32} (record { sfits = c .signed2 .ok }) in
-    rw (eq-eqb _ _ (c .before .before .before .before .before .if1 .left), h, k) (cc)
+    some-potentials (c .before .before .before .before .before .before .before .args .line .now) (c .before .before .before .before .before .if1 .left) (c .before .before .before .before .number .ensures .0)
+    (toZ-ofZ {w = w32} {z = c .before .before .signed .result} (record { sfits = c .before .before .signed .ok }) ∙ c .before .before .signed .ensures ∙ ap signedOf (c .before .before .before .number2 .ensures .0))
+    (toZ-ofZ {w = w32} {z = c .signed2 .result} (record { sfits = c .signed2 .ok }) ∙ c .signed2 .ensures ∙ ap signedOf (c .before .number3 .ensures .0))
 
 pub potentials-frame-spec : {M : Type 1} → statement M
 potentials-frame-spec =

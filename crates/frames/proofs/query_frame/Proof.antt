@@ -1,21 +1,30 @@
 -- `frames::query_frame` meets its contract: it reads the definition's fields in a line of the definition's length. Assumes nothing.
 use mathlib.Core.Path.{_≡_}
 use native.Mathlib.Omega.{arith}
-use Prim.Native.Nat.{_+_}
+use mathlib.Core.List.{List}
+use Prim.Native.Nat.{ℕ, _+_}
 use lib.ListN.{length}
 use Rattle.frames.specs.Digits.{numberAt}
 use borrow.Author.Tests.{eq-eqb, ne-eqb}
 use Rattle.frames.specs.Frame.{queryOf}
+use Rattle.frames.specs.declared.Frame.the-variants.{Query, Unsound}
 use borrow.Author.Needs.{needs}
 use Rattle.frames.proofs.query_frame.Statement.{statement}
 use Rattle.frames.proofs.query_frame.Tie as tie
 
-returns : tie.Need-returns
+-- a line of another length is no sound frame, and one of this length has these fields
+no-query : (s : List ℕ) → (length s ≡ 12 + numberAt s 10 2 → ⊥) → Unsound ≡ queryOf s
 unfolding queryOf
+no-query s l = rw (ne-eqb _ _ l)
+
+a-query : (s : List ℕ) {a b n : ℕ} → length s ≡ 12 + numberAt s 10 2 → a ≡ numberAt s 2 4 → b ≡ numberAt s 6 4 → n ≡ numberAt s 10 2 → Query a b n ≡ queryOf s
+unfolding queryOf
+a-query s l a b n = rw (eq-eqb _ _ l, a, b, n)
+
+returns : tie.Need-returns
 returns c =
     let s = c .before .before .args .line .now in
-    let short : length s ≡ 12 + numberAt s 10 2 → ⊥ = λ e. omega arith in
-    simp (ne-eqb _ _ short)
+    no-query s (λ e. omega arith)
 
 number-requires : tie.Need-number-requires
 number-requires c κs = search needs
@@ -27,11 +36,9 @@ cast-if2 : tie.Need-cast-if2
 cast-if2 c = search needs
 
 returns-2 : tie.Need-returns-2
-unfolding queryOf
 returns-2 c =
     let s = c .before .before .before .before .args .line .now in
-    let other : length s ≡ 12 + numberAt s 10 2 → ⊥ = λ e. c .if2 .taken (omega (arith, c .before .number .ensures .0)) in
-    simp (ne-eqb _ _ other)
+    no-query s (λ e. c .if2 .taken (omega (arith, c .before .number .ensures .0)))
 
 number-requires-2 : tie.Need-number-requires-2
 number-requires-2 c κs = search needs
@@ -49,11 +56,10 @@ cast-t11 : tie.Need-cast-t11
 cast-t11 c = search needs
 
 returns-3 : tie.Need-returns-3
-unfolding queryOf
 returns-3 c =
     let s = c .before .before .before .before .before .before .args .line .now in
     let same : length s ≡ 12 + numberAt s 10 2 = omega (arith, c .before .before .before .number .ensures .0) in
-    rw (eq-eqb _ _ same) (cc)
+    a-query s same (c .before .number2 .ensures .0) (c .number3 .ensures .0) (c .before .before .before .number .ensures .0)
 
 pub query-frame-spec : {M : Type 1} → statement M
 query-frame-spec =

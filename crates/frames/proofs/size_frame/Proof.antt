@@ -1,13 +1,27 @@
 -- `frames::size_frame` meets its contract: it reads the definition's fields in a line of the definition's length. Assumes nothing.
+use mathlib.Core.Path.{_≡_}
+use mathlib.Core.List.{List}
+use Prim.Native.Nat.{ℕ}
+use lib.ListN.{length}
 use borrow.Author.Tests.{eq-eqb, ne-eqb}
+use Rattle.frames.specs.Digits.{numberAt}
 use Rattle.frames.specs.Frame.{sizeOf}
+use Rattle.frames.specs.declared.Frame.the-variants.{Size, Unsound}
 use borrow.Author.Needs.{needs}
 use Rattle.frames.proofs.size_frame.Statement.{statement}
 use Rattle.frames.proofs.size_frame.Tie as tie
 
-returns : tie.Need-returns
+-- a line of another length is no sound frame, and one of this length has these fields
+no-size : (s : List ℕ) → (length s ≡ 10 → ⊥) → Unsound ≡ sizeOf s
 unfolding sizeOf
-returns c = simp (ne-eqb _ _ (c .if1 .taken))
+no-size s l = rw (ne-eqb _ _ l)
+
+a-size : (s : List ℕ) {n m : ℕ} → length s ≡ 10 → n ≡ numberAt s 2 4 → m ≡ numberAt s 6 4 → Size n m ≡ sizeOf s
+unfolding sizeOf
+a-size s l n m = rw (eq-eqb _ _ l, n, m)
+
+returns : tie.Need-returns
+returns c = no-size (c .before .before .args .line .now) (c .if1 .taken)
 
 number-requires : tie.Need-number-requires
 number-requires c κs = search needs
@@ -22,8 +36,7 @@ cast-arcs : tie.Need-cast-arcs
 cast-arcs c = search needs
 
 returns-2 : tie.Need-returns-2
-unfolding sizeOf
-returns-2 c = rw (eq-eqb _ _ (c .before .before .if1 .left)) (cc)
+returns-2 c = a-size (c .before .before .before .before .args .line .now) (c .before .before .if1 .left) (c .before .number .ensures .0) (c .number2 .ensures .0)
 
 pub size-frame-spec : {M : Type 1} → statement M
 size-frame-spec =

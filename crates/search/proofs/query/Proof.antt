@@ -1,9 +1,23 @@
 -- `query` meets its contract: the verdict picks what the query leaves, and the demands follow from that. Assumes nothing.
 use mathlib.Core.Path.{sym, _∙_}
-use Rattle.search.specs.DemandLaws.{refused-left, accepted-left, demand-1-kept, demand-2-kept, demand-3-kept}
+use Rattle.network.specs.Network.{network}
+use Rattle.network.specs.Query.{Query, query}
+use Rattle.search.specs.Promise.{Lists, lists}
+use Rattle.search.proofs.AnswerLaws.{kept-refused, kept-accepted}
 use borrow.Author.Needs.{needs}
 use Rattle.search.proofs.query.Statement.{statement}
 use Rattle.search.proofs.query.Tie as tie
+
+-- the query and the lists at entry
+abbrev asked : tie.Start → Query
+asked s =
+    query (network (s .args .nodes) (s .args .tails .now) (s .args .heads .now) (s .args .weights .now)) (s .args .forward .now) (s .args .backward .now)
+    (s .args .start) (s .args .end) (s .args .pattern .now)
+
+abbrev entry : tie.Start → Lists
+entry s =
+    lists (s .args .start-labels .now) (s .args .start-neighbours .now) (s .args .end-labels .now) (s .args .end-neighbours .now)
+    (s .args .states .now) (s .args .path .now)
 
 check-query-requires : tie.Need-check-query-requires
 check-query-requires c κs = search needs
@@ -18,32 +32,28 @@ search-accepted-requires : tie.Need-search-accepted-requires
 search-accepted-requires c κs = sym (c .before .before .before .before .before .before .before .before .check-query .ensures) ∙ c .before .before .before .before .before .before .enum-told .given .1
 
 returns : tie.Need-returns
-returns c =
-    let e = sym (refused-left _ _ (sym (c .before .before .before .check-query .ensures) ∙ c .before .verdict .given .1)) in
-    (e, (demand-1-kept _ _ _ _ e, (demand-2-kept _ _ _ _ e, demand-3-kept _ _ _ _ e)))
+returns c = kept-refused (asked (c .before .before .before .before .before .before .before .before .before .before .before .before .before .before)) (entry (c .before .before .before .before .before .before .before .before .before .before .before .before .before .before)) _ (sym (c .before .before .before .check-query .ensures) ∙ c .before .verdict .given .1)
 
 same-length : tie.Need-same-length
-same-length c = search needs
+same-length c = c .before .before .before .before .before .before .before .before .before .before .before .before .search-accepted .kept .1 .1 .1 .1 .1 .1 .1 .1 .1 .0
 
 same-length-2 : tie.Need-same-length-2
-same-length-2 c = search needs
+same-length-2 c = c .before .before .before .before .before .before .before .before .before .before .before .before .search-accepted .kept .1 .1 .1 .1 .1 .1 .1 .1 .1 .1 .0
 
 same-length-3 : tie.Need-same-length-3
-same-length-3 c = search needs
+same-length-3 c = c .before .before .before .before .before .before .before .before .before .before .before .before .search-accepted .kept .1 .1 .1 .1 .1 .1 .1 .1 .1 .1 .1 .0
 
 same-length-4 : tie.Need-same-length-4
-same-length-4 c = search needs
+same-length-4 c = c .before .before .before .before .before .before .before .before .before .before .before .before .search-accepted .kept .1 .1 .1 .1 .1 .1 .1 .1 .1 .1 .1 .1 .0
 
 same-length-5 : tie.Need-same-length-5
-same-length-5 c = search needs
+same-length-5 c = c .before .before .before .before .before .before .before .before .before .before .before .before .search-accepted .kept .1 .1 .1 .1 .1 .1 .1 .1 .1 .1 .1 .1 .1 .0
 
 same-length-6 : tie.Need-same-length-6
-same-length-6 c = search needs
+same-length-6 c = c .before .before .before .before .before .before .before .before .before .before .before .before .search-accepted .kept .1 .1 .1 .1 .1 .1 .1 .1 .1 .1 .1 .1 .1 .1 .0
 
 returns-2 : tie.Need-returns-2
-returns-2 c =
-    let e = c .before .before .before .before .before .before .before .before .before .before .before .before .search-accepted .ensures ∙ sym (accepted-left _ _ (sym (c .before .before .before .before .before .before .before .before .before .before .before .before .before .before .before .before .before .before .before .before .before .check-query .ensures) ∙ c .before .before .before .before .before .before .before .before .before .before .before .before .before .before .before .before .before .before .before .enum-told .given .1)) in
-    (e, (demand-1-kept _ _ _ _ e, (demand-2-kept _ _ _ _ e, demand-3-kept _ _ _ _ e)))
+returns-2 c = kept-accepted (asked (c .before .before .before .before .before .before .before .before .before .before .before .before .before .before .before .before .before .before .before .before .before .before .before .before .before .before .before .before .before .before .before .before)) (entry (c .before .before .before .before .before .before .before .before .before .before .before .before .before .before .before .before .before .before .before .before .before .before .before .before .before .before .before .before .before .before .before .before)) _ _ (sym (c .before .before .before .before .before .before .before .before .before .before .before .before .before .before .before .before .before .before .before .before .before .check-query .ensures) ∙ c .before .before .before .before .before .before .before .before .before .before .before .before .before .before .before .before .before .before .before .enum-told .given .1) (c .before .before .before .before .before .before .before .before .before .before .before .before .search-accepted .ensures)
 
 pub query-spec : {M : Type 1} → statement M
 query-spec =

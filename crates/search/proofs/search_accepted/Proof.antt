@@ -2,79 +2,91 @@
 -- beyond them stays. Assumes nothing.
 use mathlib.Core.Path.{sym}
 use lib.Seq.{length-take-le}
+use Rattle.network.specs.Given.{Enough}
+use Rattle.network.specs.Network.{network}
+use Rattle.network.specs.Query.{Query, query}
 use Rattle.network.specs.SoundLaws.{accepted-sound, accepted-enough}
 use Rattle.search.specs.Promise.{Lists, lists, lengths}
-use Rattle.search.proofs.AnswerLaws.{cut-long, cut-left}
+use Rattle.search.proofs.AnswerLaws.{cut-long, cut-left, cut-same}
 use borrow.Author.Needs.{needs}
 use Rattle.search.proofs.search_accepted.Statement.{statement}
 use Rattle.search.proofs.search_accepted.Tie as tie
 
--- the lists at entry
+-- the query and the lists at entry
+abbrev asked : tie.Start → Query
+asked s =
+    query (network (s .args .nodes) (s .args .tails .now) (s .args .heads .now) (s .args .weights .now)) (s .args .forward .now) (s .args .backward .now)
+    (s .args .start) (s .args .end) (s .args .pattern .now)
+
 abbrev entry : tie.Start → Lists
 entry s =
     lists (s .args .start-labels .now) (s .args .start-neighbours .now) (s .args .end-labels .now) (s .args .end-neighbours .now)
     (s .args .states .now) (s .args .path .now)
 
+-- each list is long enough
+enough : (s : tie.Start) → Enough (s .args .nodes) (lengths (entry s))
+enough s = accepted-enough (asked s) (lengths (entry s)) (s .pre)
+
 slice-relend-prefix-searched : tie.Need-slice-relend-prefix-searched
-slice-relend-prefix-searched c = accepted-enough _ _ (c .before .before .before .before .before .before .before .before .before .before .pre) .for-start-labels
+slice-relend-prefix-searched c = enough (c .before .before .before .before .before .before .before .before .before .before) .for-start-labels
 
 slice-aggregate-searched : tie.Need-slice-aggregate-searched
-slice-aggregate-searched c = sym (length-take-le _ _ (accepted-enough _ _ (c .before .before .before .before .before .before .before .before .before .before .before .pre) .for-start-labels))
+slice-aggregate-searched c = sym (length-take-le (c .before .before .before .before .before .before .before .before .before .before .before .args .nodes) (c .before .before .before .before .before .before .before .before .before .before .before .args .start-labels .now) (enough (c .before .before .before .before .before .before .before .before .before .before .before) .for-start-labels))
 
 slice-relend-prefix-searched-2 : tie.Need-slice-relend-prefix-searched-2
-slice-relend-prefix-searched-2 c = accepted-enough _ _ (c .before .before .before .before .before .before .before .before .before .before .before .pre) .for-start-neighbours
+slice-relend-prefix-searched-2 c = enough (c .before .before .before .before .before .before .before .before .before .before .before) .for-start-neighbours
 
 slice-aggregate-searched-2 : tie.Need-slice-aggregate-searched-2
-slice-aggregate-searched-2 c = sym (length-take-le _ _ (accepted-enough _ _ (c .before .before .before .before .before .before .before .before .before .before .before .before .pre) .for-start-neighbours))
+slice-aggregate-searched-2 c = sym (length-take-le (c .before .before .before .before .before .before .before .before .before .before .before .before .args .nodes) (c .before .before .before .before .before .before .before .before .before .before .before .before .args .start-neighbours .now) (enough (c .before .before .before .before .before .before .before .before .before .before .before .before) .for-start-neighbours))
 
 slice-relend-prefix-searched-3 : tie.Need-slice-relend-prefix-searched-3
-slice-relend-prefix-searched-3 c = accepted-enough _ _ (c .before .before .before .before .before .before .before .before .before .before .before .before .pre) .for-end-labels
+slice-relend-prefix-searched-3 c = enough (c .before .before .before .before .before .before .before .before .before .before .before .before) .for-end-labels
 
 slice-aggregate-searched-3 : tie.Need-slice-aggregate-searched-3
-slice-aggregate-searched-3 c = sym (length-take-le _ _ (accepted-enough _ _ (c .before .before .before .before .before .before .before .before .before .before .before .before .before .pre) .for-end-labels))
+slice-aggregate-searched-3 c = sym (length-take-le (c .before .before .before .before .before .before .before .before .before .before .before .before .before .args .nodes) (c .before .before .before .before .before .before .before .before .before .before .before .before .before .args .end-labels .now) (enough (c .before .before .before .before .before .before .before .before .before .before .before .before .before) .for-end-labels))
 
 slice-relend-prefix-searched-4 : tie.Need-slice-relend-prefix-searched-4
-slice-relend-prefix-searched-4 c = accepted-enough _ _ (c .before .before .before .before .before .before .before .before .before .before .before .before .before .pre) .for-end-neighbours
+slice-relend-prefix-searched-4 c = enough (c .before .before .before .before .before .before .before .before .before .before .before .before .before) .for-end-neighbours
 
 slice-aggregate-searched-4 : tie.Need-slice-aggregate-searched-4
-slice-aggregate-searched-4 c = sym (length-take-le _ _ (accepted-enough _ _ (c .before .before .before .before .before .before .before .before .before .before .before .before .before .before .pre) .for-end-neighbours))
+slice-aggregate-searched-4 c = sym (length-take-le (c .before .before .before .before .before .before .before .before .before .before .before .before .before .before .args .nodes) (c .before .before .before .before .before .before .before .before .before .before .before .before .before .before .args .end-neighbours .now) (enough (c .before .before .before .before .before .before .before .before .before .before .before .before .before .before) .for-end-neighbours))
 
 slice-relend-prefix-searched-5 : tie.Need-slice-relend-prefix-searched-5
-slice-relend-prefix-searched-5 c = accepted-enough _ _ (c .before .before .before .before .before .before .before .before .before .before .before .before .before .before .pre) .for-states
+slice-relend-prefix-searched-5 c = enough (c .before .before .before .before .before .before .before .before .before .before .before .before .before .before) .for-states
 
 slice-aggregate-searched-5 : tie.Need-slice-aggregate-searched-5
-slice-aggregate-searched-5 c = sym (length-take-le _ _ (accepted-enough _ _ (c .before .before .before .before .before .before .before .before .before .before .before .before .before .before .before .pre) .for-states))
+slice-aggregate-searched-5 c = sym (length-take-le (c .before .before .before .before .before .before .before .before .before .before .before .before .before .before .before .args .nodes) (c .before .before .before .before .before .before .before .before .before .before .before .before .before .before .before .args .states .now) (enough (c .before .before .before .before .before .before .before .before .before .before .before .before .before .before .before) .for-states))
 
 searched-requires : tie.Need-searched-requires
 searched-requires c κs =
     let s = c .before .before .before .before .before .before .before .before .before .before .before .before .before .before .before .before in
     let l = entry s in
-    let e = accepted-enough _ (lengths l) (s .pre) in
-    rw (length-take-le (s .args .nodes) (s .args .states .now) (e .for-states)) (accepted-sound _ (lengths l) (s .pre), (cut-long l e, e .for-path))
+    let e = enough s in
+    rw (length-take-le (s .args .nodes) (s .args .states .now) (e .for-states)) (accepted-sound (asked s) (lengths l) (s .pre), (cut-long l e, e .for-path))
 
 same-length : tie.Need-same-length
-same-length c = search needs
+same-length c = cut-same (c .before .before .before .before .before .before .before .before .before .before .before .before .before .before .before .before .before .before .before .before .before .before .before .before .before .before .before .before .before .args .nodes) (c .before .before .before .before .before .before .before .before .before .before .before .before .before .before .before .before .before .before .before .before .before .before .before .before .before .before .before .before .before .args .start-labels .now) (c .before .before .before .before .before .before .before .before .before .before .before .before .searched .last .1 .1 .1 .1 .1 .1 .1 .1 .0) (enough (c .before .before .before .before .before .before .before .before .before .before .before .before .before .before .before .before .before .before .before .before .before .before .before .before .before .before .before .before .before) .for-start-labels) (c .before .before .before .before .before .before .before .before .before .before .before .before .searched .kept .1 .1 .1 .1 .1 .1 .1 .1 .0)
 
 same-length-2 : tie.Need-same-length-2
-same-length-2 c = search needs
+same-length-2 c = cut-same (c .before .before .before .before .before .before .before .before .before .before .before .before .before .before .before .before .before .before .before .before .before .before .before .before .before .before .before .before .before .args .nodes) (c .before .before .before .before .before .before .before .before .before .before .before .before .before .before .before .before .before .before .before .before .before .before .before .before .before .before .before .before .before .args .start-neighbours .now) (c .before .before .before .before .before .before .before .before .before .before .before .before .searched .last .1 .1 .1 .1 .1 .1 .1 .1 .1 .0) (enough (c .before .before .before .before .before .before .before .before .before .before .before .before .before .before .before .before .before .before .before .before .before .before .before .before .before .before .before .before .before) .for-start-neighbours) (c .before .before .before .before .before .before .before .before .before .before .before .before .searched .kept .1 .1 .1 .1 .1 .1 .1 .1 .1 .0)
 
 same-length-3 : tie.Need-same-length-3
-same-length-3 c = search needs
+same-length-3 c = cut-same (c .before .before .before .before .before .before .before .before .before .before .before .before .before .before .before .before .before .before .before .before .before .before .before .before .before .before .before .before .before .args .nodes) (c .before .before .before .before .before .before .before .before .before .before .before .before .before .before .before .before .before .before .before .before .before .before .before .before .before .before .before .before .before .args .end-labels .now) (c .before .before .before .before .before .before .before .before .before .before .before .before .searched .last .1 .1 .1 .1 .1 .1 .1 .1 .1 .1 .0) (enough (c .before .before .before .before .before .before .before .before .before .before .before .before .before .before .before .before .before .before .before .before .before .before .before .before .before .before .before .before .before) .for-end-labels) (c .before .before .before .before .before .before .before .before .before .before .before .before .searched .kept .1 .1 .1 .1 .1 .1 .1 .1 .1 .1 .0)
 
 same-length-4 : tie.Need-same-length-4
-same-length-4 c = search needs
+same-length-4 c = cut-same (c .before .before .before .before .before .before .before .before .before .before .before .before .before .before .before .before .before .before .before .before .before .before .before .before .before .before .before .before .before .args .nodes) (c .before .before .before .before .before .before .before .before .before .before .before .before .before .before .before .before .before .before .before .before .before .before .before .before .before .before .before .before .before .args .end-neighbours .now) (c .before .before .before .before .before .before .before .before .before .before .before .before .searched .last .1 .1 .1 .1 .1 .1 .1 .1 .1 .1 .1 .0) (enough (c .before .before .before .before .before .before .before .before .before .before .before .before .before .before .before .before .before .before .before .before .before .before .before .before .before .before .before .before .before) .for-end-neighbours) (c .before .before .before .before .before .before .before .before .before .before .before .before .searched .kept .1 .1 .1 .1 .1 .1 .1 .1 .1 .1 .1 .0)
 
 same-length-5 : tie.Need-same-length-5
-same-length-5 c = search needs
+same-length-5 c = cut-same (c .before .before .before .before .before .before .before .before .before .before .before .before .before .before .before .before .before .before .before .before .before .before .before .before .before .before .before .before .before .args .nodes) (c .before .before .before .before .before .before .before .before .before .before .before .before .before .before .before .before .before .before .before .before .before .before .before .before .before .before .before .before .before .args .states .now) (c .before .before .before .before .before .before .before .before .before .before .before .before .searched .last .1 .1 .1 .1 .1 .1 .1 .1 .1 .1 .1 .1 .0) (enough (c .before .before .before .before .before .before .before .before .before .before .before .before .before .before .before .before .before .before .before .before .before .before .before .before .before .before .before .before .before) .for-states) (c .before .before .before .before .before .before .before .before .before .before .before .before .searched .kept .1 .1 .1 .1 .1 .1 .1 .1 .1 .1 .1 .1 .0)
 
 same-length-6 : tie.Need-same-length-6
-same-length-6 c = search needs
+same-length-6 c = c .before .before .before .before .before .before .before .before .before .before .before .before .searched .kept .1 .1 .1 .1 .1 .1 .1 .1 .1 .1 .1 .1 .1 .0
 
 returns : tie.Need-returns
 returns c =
     let s = c .before .before .before .before .before .before .before .before .before .before .before .before .before .before .before .before .before .before .before .before .before .before .before .before .before .before .before .before .before in
-    let l = length-take-le (s .args .nodes) (s .args .states .now) (accepted-enough _ _ (s .pre) .for-states) in
-    cut-left _ (entry s) (rw l at (c .before .before .before .before .before .before .before .before .before .before .before .before .searched .ensures .0)) (rw l at (c .before .before .before .before .before .before .before .before .before .before .before .before .searched .ensures .1 .0)) (rw l at (c .before .before .before .before .before .before .before .before .before .before .before .before .searched .ensures .1 .1))
+    let l = length-take-le (s .args .nodes) (s .args .states .now) (enough s .for-states) in
+    cut-left (asked s) (entry s) {sl = (c .before .before .before .before .before .before .before .before .before .before .before .before .searched .last .1 .1 .1 .1 .1 .1 .1 .1 .0)} {sn = (c .before .before .before .before .before .before .before .before .before .before .before .before .searched .last .1 .1 .1 .1 .1 .1 .1 .1 .1 .0)} {el = (c .before .before .before .before .before .before .before .before .before .before .before .before .searched .last .1 .1 .1 .1 .1 .1 .1 .1 .1 .1 .0)} {en = (c .before .before .before .before .before .before .before .before .before .before .before .before .searched .last .1 .1 .1 .1 .1 .1 .1 .1 .1 .1 .1 .0)} {states = (c .before .before .before .before .before .before .before .before .before .before .before .before .searched .last .1 .1 .1 .1 .1 .1 .1 .1 .1 .1 .1 .1 .0)} (rw l at (c .before .before .before .before .before .before .before .before .before .before .before .before .searched .ensures .0)) (rw l at (c .before .before .before .before .before .before .before .before .before .before .before .before .searched .ensures .1 .0)) (rw l at (c .before .before .before .before .before .before .before .before .before .before .before .before .searched .ensures .1 .1))
 
 pub search-accepted-spec : {M : Type 1} → statement M
 search-accepted-spec =
