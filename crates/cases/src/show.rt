@@ -1,11 +1,10 @@
 // Words, numbers, answers and lists on standard output.
+use crate::lines;
 use libc::STDOUT_FILENO;
 use network::Answer;
 use network::Cause;
 use network::Figures;
 use network::Verdict;
-ghost use mathlib.Core.Path.{_≡_};
-ghost use Rattle.network.specs.Answer.{numberOf, placeOf};
 
 pub fn text(words: &[u8]) {
     io::write_all(STDOUT_FILENO, words);
@@ -27,48 +26,11 @@ pub fn say_signed(words: &[u8], z: i32) {
     }
 }
 
-// A cause's row in the refusal table.
-fn number(cause: Cause) -> u64
-    ensures { λ r. ⌜ r ≡ numberOf cause ⌝ }
-{
-    match cause {
-        Cause::NodeCount => 1,
-        Cause::ArcLists => 2,
-        Cause::PotentialLists => 3,
-        Cause::StartOrEnd => 4,
-        Cause::Pattern => 5,
-        Cause::Room => 6,
-        Cause::BadArc(_) => 7,
-        Cause::BadPotential(_) => 8,
-        Cause::Inconsistent(_) => 9,
-        Cause::UnsoundLine(_) => 10,
-        Cause::MisplacedLine(_) => 11,
-    }
-}
-
-// The arc, node or line that a cause holds, or 0.
-fn place(cause: Cause) -> u64
-    ensures { λ r. ⌜ r ≡ placeOf cause ⌝ }
-{
-    match cause {
-        Cause::NodeCount => 0,
-        Cause::ArcLists => 0,
-        Cause::PotentialLists => 0,
-        Cause::StartOrEnd => 0,
-        Cause::Pattern => 0,
-        Cause::Room => 0,
-        Cause::BadArc(arc) => arc as u64,
-        Cause::BadPotential(node) => node as u64,
-        Cause::Inconsistent(arc) => arc as u64,
-        Cause::UnsoundLine(line) => line as u64,
-        Cause::MisplacedLine(line) => line as u64,
-    }
-}
-
+// A refusal, by its line.
 fn refusal(cause: Cause) {
-    say(b": refusal ", number(cause));
-    say(b" at ", place(cause));
-    text(b"\n");
+    let no_path = [0u16; 1];
+    text(b": refused, ");
+    lines::answer(Answer::Refused(cause), &no_path);
 }
 
 fn figures(f: Figures) {
