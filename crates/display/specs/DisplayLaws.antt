@@ -1,10 +1,9 @@
 -- What the display's entry promises, in document 01's words: lines that fit stand at the front of the room, the count is theirs,
 -- and the bytes beyond them are unchanged; lines that do not fit leave the room unchanged, and the count is 0. Nothing else is
 -- admitted. Assumes nothing.
-use mathlib.Core.Path.{_≡_, refl, sym, _∙_}
+use mathlib.Core.Path.{_≡_, sym, _∙_}
 use mathlib.Core.List.{List}
 use Prim.Native.Nat.{ℕ, _<_, _≤_}
-use native.Mathlib.Omega.{arith}
 use lib.ListN.{length, take, drop}
 use lib.Seq.{take-at, drop-at}
 use borrow.Author.Tests.{le-leb, lt-leb}

@@ -6,7 +6,6 @@ pub mod TakenLaws
 pub mod QueryLaws
 pub mod StepCases
 pub mod FileLaws
-pub mod GatherLaws
 pub mod OneAnswer
 pub mod Cases
 pub mod PrintLaws

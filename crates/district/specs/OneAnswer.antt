@@ -9,10 +9,9 @@ use lib.ListN.{length, take, drop, take-append-drop}
 use Rattle.network.specs.declared.Verdict.the-variants.{Accepted}
 use Rattle.network.specs.Network.{network}
 use Rattle.network.specs.Refusal.{networkVerdict}
-use Rattle.frames.specs.Room.{Placed}
 use Rattle.district.specs.declared.Reader.{Reader}
 use Rattle.district.specs.declared.Taken.{Taken}
-use Rattle.district.specs.File.{File, Step, displayAnswer}
+use Rattle.district.specs.File.{File, Step}
 use Rattle.district.specs.Reader.{Lists, toldBy, fileOf, Reached, Stepped, Ended, startReader, ownVerdict}
 use Rattle.district.specs.ReaderLaws.{count-tails, count-forward, count-held}
 
@@ -85,7 +84,3 @@ end-of-input-one-answer r left room after after′ n n′ p q =
     let a = p .law (left .over) (left .kept) in
     let b = q .law (left .over) (left .kept) in
     (a .count-is ∙ sym (b .count-is), a .room-is ∙ sym (b .room-is))
-
--- `answer_file`
-pub answer-file-one-answer : (file room after after′ : List ℕ) (n n′ : ℕ) → Placed (displayAnswer file) room after n → Placed (displayAnswer file) room after′ n′ → (n ≡ n′) × (after ≡ after′)
-answer-file-one-answer file room after after′ n n′ p q = (p .count-is ∙ sym (q .count-is), p .room-is ∙ sym (q .room-is))

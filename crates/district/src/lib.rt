@@ -2,11 +2,8 @@
 // that hold the line and the network are lent to each step and kept between them. A query is answered as soon as its line
 // ends. What a file is answered is defined in specs/File.antt; each step here does what that definition says.
 ghost use mathlib.Core.Path.{_≡_};
-ghost use Prim.Native.Nat.{_+_, _≤_};
-ghost use lib.ListN.{length};
-ghost use Rattle.frames.specs.Room.{Placed, Laid};
-ghost use Rattle.district.specs.File.{takeByte, displayAnswer};
-ghost use Rattle.district.specs.Reader.{mostBytes, refusalBytes, Roomy, startReader, lists, fileOf, Kept, Stepped, Reached, Ended};
+ghost use Rattle.district.specs.File.{takeByte};
+ghost use Rattle.district.specs.Reader.{startReader, lists, fileOf, Kept, Stepped, Reached, Ended};
 ghost use Rattle.district.specs.Inner.{owesBy};
 
 mod answer;
@@ -25,9 +22,6 @@ const MOST_NODES: usize = network::MOST_NODES as usize;
 
 // The most bytes of an answer: a route's line, and the line of a path over as many nodes as there can be.
 pub const MOST_BYTES: usize = 31 + 3 + 4 * MOST_NODES;
-
-// The bytes of a refusal's line.
-const REFUSAL_BYTES: usize = 13;
 
 // Where a file stands: the line that is being read and how many bytes of it there are, whether one query only may stand in it,
 // whether it goes on, what its 01 stated (no nodes while the 01 is owed), how many arcs and potentials were read, what the
@@ -137,82 +131,4 @@ pub fn end_of_input(reader: Reader, room: &mut [u8]) -> usize
         return missing.written;
     }
     0
-}
-
-// A text at the front of the room where it fits; else 0, and the room stays as it was.
-fn place(text: &[u8], room: &mut [u8]) -> usize
-    ensures { λ r. ⌜ Placed (now (text .entry)) (now (room .entry)) (now (room .exit)) r ⌝ }
-{
-    if room.len() < text.len() {
-        return 0;
-    }
-    let mut i: usize = 0;
-    while i < text.len() {
-        room[i] = text[i];
-        i += 1;
-    }
-    i
-}
-
-// The answer of a file with one query, gathered in a text that always suffices: each answer line starts where the line before
-// it ended.
-fn gather(
-    file: &[u8],
-    line: &mut [u8],
-    tails: &mut [u16],
-    heads: &mut [u16],
-    weights: &mut [u32],
-    forward: &mut [i32],
-    backward: &mut [i32],
-    text: &mut [u8],
-) -> usize
-    requires { ⌜ Roomy (lists (now line) (now tails) (now heads) (now weights) (now forward) (now backward)) × (mostBytes + refusalBytes ≤ length (now text)) ⌝ }
-    ensures { λ r. ⌜ Laid (displayAnswer (now (file .entry))) (now (text .entry)) (now (text .exit)) r ⌝ }
-{
-    let mut reader = start(true, 1);
-    let mut at: usize = 0;
-    let mut i: usize = 0;
-    while i < file.len() {
-        let taken = take_byte(
-            reader,
-            file[i],
-            line,
-            tails,
-            heads,
-            weights,
-            forward,
-            backward,
-            &mut text[at..],
-        );
-        reader = taken.reader;
-        at += taken.written;
-        i += 1;
-    }
-    let last = end_of_input(reader, &mut text[at..]);
-    at + last
-}
-
-// The display's answer to the bytes of a file: the lines at the front of the room, and how many bytes they are. Where they do
-// not fit it is 0 and the room stays as it was.
-pub fn answer_file(file: &[u8], room: &mut [u8]) -> usize
-    ensures { λ r. ⌜ Placed (displayAnswer (now (file .entry))) (now (room .entry)) (now (room .exit)) r ⌝ }
-{
-    let mut line = [0u8; frames::MOST_DIGITS];
-    let mut tails = [0u16; network::MOST_ARCS];
-    let mut heads = [0u16; network::MOST_ARCS];
-    let mut weights = [0u32; network::MOST_ARCS];
-    let mut forward = [0i32; MOST_NODES];
-    let mut backward = [0i32; MOST_NODES];
-    let mut text = [0u8; MOST_BYTES + REFUSAL_BYTES];
-    let n = gather(
-        file,
-        &mut line,
-        &mut tails,
-        &mut heads,
-        &mut weights,
-        &mut forward,
-        &mut backward,
-        &mut text,
-    );
-    place(&text[..n], room)
 }

@@ -8,8 +8,8 @@ use lib.ListN.{length, drop, getD, drop-of-length-le}
 use lib.Seq.{drop-cons}
 use Rattle.frames.specs.Room.{Placed}
 use Rattle.frames.specs.RoomLaws.{Underway, underway-start, underway-entry, underway-end, laid-placed, too-little-room}
-use Rattle.district.proofs.place.Statement.{statement}
-use Rattle.district.proofs.place.Tie as tie
+use Rattle.display.proofs.place.Statement.{statement}
+use Rattle.display.proofs.place.Tie as tie
 
 -- the next entry is the first of those that are left
 ne : {text old room : List ℕ} {i : ℕ} → Underway text old room i (drop i text) → i < length text → Underway text old room i (getD text i 0 ∷ drop (i + 1) text)

@@ -4,10 +4,10 @@ use Prim.Native.Nat.{_-_}
 use native.Mathlib.Omega.{arith}
 use borrow.Author.Needs.{needs}
 use lib.ListN.{length}
 use Rattle.district.specs.Reader.{lists}
-use Rattle.district.specs.GatherLaws.{Gathering, gather-start, byte-count, gather-byte, end-count, end-size, gather-end}
-use Rattle.district.proofs.gather.Statement.{statement}
-use Rattle.district.proofs.gather.Tie as tie
+use Rattle.display.specs.GatherLaws.{Gathering, gather-start, byte-count, gather-byte, end-count, end-size, gather-end}
+use Rattle.display.proofs.gather.Statement.{statement}
+use Rattle.display.proofs.gather.Tie as tie
 
 abbrev Inv-loop : tie.InvT-loop
 Inv-loop file line₀ tails₀ heads₀ weights₀ forward₀ backward₀ text₀ reader₀ at₀ i₀ line tails heads weights forward backward text reader at i =

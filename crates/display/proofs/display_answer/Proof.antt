@@ -1,12 +1,12 @@
--- `answer_file` meets its contract: the gathered text is the answer, and it is placed where it fits. Assumes nothing.
+-- `display_answer` meets its contract: the gathered text is the answer, and it is placed where it fits. Assumes nothing.
 use mathlib.Core.Path.{sym}
 use native.Mathlib.Omega.{arith}
 use lib.Seq.{length-take-le}
 use Rattle.district.specs.QueryLaws.{laid-front, placed-as}
-use Rattle.district.specs.GatherLaws.{display-bytes}
+use Rattle.display.specs.GatherLaws.{display-bytes}
 use borrow.Author.Needs.{needs}
-use Rattle.district.proofs.answer_file.Statement.{statement}
-use Rattle.district.proofs.answer_file.Tie as tie
+use Rattle.display.proofs.display_answer.Statement.{statement}
+use Rattle.display.proofs.display_answer.Tie as tie
 
 slice-aggregate-gather : tie.Need-slice-aggregate-gather
 slice-aggregate-gather c = search needs
@@ -47,8 +47,8 @@ same-length c = search needs
 returns : tie.Need-returns
 returns c = placed-as (laid-front _ _ _ _ (c .before .before .before .before .before .before .before .before .before .before .before .before .gather .ensures)) (c .before .before .place .ensures)
 
-pub answer-file-spec : {M : Type 1} → statement M
-answer-file-spec =
+pub display-answer-spec : {M : Type 1} → statement M
+display-answer-spec =
     tie.close
     (tie.spec
     slice-aggregate-gather
