@@ -39,28 +39,31 @@ pub fn processor_time(whose: Whose) -> f64 {
     seconds(usage.user) + seconds(usage.system)
 }
 
-/// The least processor time of a few runs of a program: few if one run is long.
+/// Runs that are made at the least, and the seconds after which no more are.
+const RUNS: usize = 7;
+const ENOUGH: f64 = 3.0;
+
+/// The least processor time of several runs of a program: more of them if one run is short.
 pub fn of_program<E>(mut run: impl FnMut() -> Result<(), E>) -> Result<f64, E> {
     let mut least = f64::MAX;
     let mut spent = 0.0;
-    for _ in 0..5 {
+    let mut runs = 0;
+    while runs < RUNS || (spent < ENOUGH && runs < 10 * RUNS) {
         let before = processor_time(Whose::Programs);
         run()?;
         let time = processor_time(Whose::Programs) - before;
         least = least.min(time);
         spent += time;
-        if spent > 1.0 {
-            break;
-        }
+        runs += 1;
     }
     Ok(least)
 }
 
 /// The processor time of one call, averaged over rounds of at least 40
-/// milliseconds; the least of three rounds.
+/// milliseconds; the least of several rounds.
 pub fn of_call(mut call: impl FnMut()) -> f64 {
     let mut least = f64::MAX;
-    for _ in 0..3 {
+    for _ in 0..3 * RUNS {
         let before = processor_time(Whose::Own);
         let mut calls = 0;
         let mut time = 0.0;
