@@ -26,7 +26,7 @@ extern "C" {
 /*
  * The stack that the calling thread should have left for a call. A call took 125,112 bytes on x86-64, the same for every
  * file that was tried, the largest districts among them: there is no recursion. This is about twice that, so that it stays
- * true where a compiler lays things out otherwise; .ci/display measures it anew.
+ * true where a compiler lays things out otherwise; .ci/checks/display measures it anew.
  */
 #define DISPLAY_STACK (256 * 1024)
 

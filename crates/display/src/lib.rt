@@ -1,7 +1,7 @@
-// The entry for the unit's display, which is written in C (document 01, "District frames"); include/display.h is its header. The
-// display hands over the bytes of a district file with one query and the room for the answer, and gets back how many bytes were
-// written. The contract says the room and the count for every file and every room. What the lines say is settled by `district`, byte by
-// byte; here they are gathered and put into the room if they fit.
+// The entry for the unit's display, which is written in C (document 01, "District frames"); include/display.h is its header.
+// The display hands over the bytes of a district file with one query and the room for the answer, and gets back how many bytes
+// were written. The contract says the room and the count for every file and every room. What the lines say is settled by
+// `district`, byte by byte; here they are gathered, and put into the room if they all fit.
 ghost use Prim.Native.Nat.{_+_, _≤_};
 ghost use lib.ListN.{length};
 ghost use Rattle.frames.specs.Room.{Placed, Laid};
