@@ -20,7 +20,7 @@ use Rattle.nba.specs.Search.{endState}
 use Rattle.nba.specs.Result.{pathOf, figuresAt, answerAt, found}
 use Rattle.nba.specs.CodeLaws.{end-state-tabled}
 use Rattle.nba.specs.Theorems.{path-fits}
-use Rattle.search.specs.declared.turn.Best.{Best}
+use Rattle.turn.specs.declared.Best.{Best}
 use Rattle.search.specs.DemandLaws.{refused-left, accepted-left, demand-1-kept, demand-2-kept, demand-3-kept}
 use Rattle.search.specs.Demands.{Demand1, Demand2, Demand3}
 use Rattle.search.specs.Promise.{Lists, lists, lengths, shownPath, searched, left, queried}

@@ -1,3 +1,2 @@
-pub mod TurnLaws
 pub mod RunLaws
 pub mod AnswerLaws

@@ -24,9 +24,9 @@ use Rattle.nba.specs.LeastLaws.{LeastAt, Choice, no-node, least-node, choice-is
 use Rattle.nba.specs.MeasureLaws.{shiftable}
 use Rattle.nba.specs.CodeLaws.{goes-on, stays-ended}
 use Rattle.nba.specs.EndLaws.{going-few}
-use Rattle.search.specs.declared.turn.Candidate.the-variants.{Nothing, Node}
-use Rattle.search.specs.declared.turn.Progress.{Progress}
-use Rattle.search.specs.Turn.{meant, Took, took, taken, bestOf, Ahead, Openable, Passed}
+use Rattle.turn.specs.declared.Candidate.the-variants.{Nothing, Node}
+use Rattle.turn.specs.declared.Progress.{Progress}
+use Rattle.turn.specs.Turn.{meant, Took, took, taken, bestOf, Ahead, Openable, Passed}
 use Rattle.search.specs.Run.{standingOf, Known, Long, Floors, swappedOf, turnOf, Foreseen, Taking, Begun, Underway, lastState, Tables, tables, tablesOf}
 
 -- the network with its arcs turned the way of a side

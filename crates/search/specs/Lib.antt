@@ -1,6 +1,5 @@
 pub mod Tables
 pub mod TablesLaws
-pub mod Turn
 pub mod Run
 pub mod Promise
 pub mod Demands

@@ -10,9 +10,9 @@ use Rattle.network.specs.Network.{Side, start, end, other, Network, mostNodes}
 use Rattle.network.specs.Query.{Query, query, sideOfTurn}
 use Rattle.nba.specs.State.{State, state}
 use Rattle.nba.specs.Search.{node, candidate, turn, beginning, afterTurns}
-use Rattle.search.specs.declared.turn.Best.{Best}
-use Rattle.search.specs.declared.turn.Progress.{Progress}
-use Rattle.search.specs.Turn.{meant}
+use Rattle.turn.specs.declared.Best.{Best}
+use Rattle.turn.specs.declared.Progress.{Progress}
+use Rattle.turn.specs.Turn.{meant}
 
 -- the state that a side's own lists, the other side's, the states and the side's progress stand for
 abbrev pub standingOf : Side → List ℕ → List ℕ → List ℕ → List ℕ → List ℕ → Progress → State

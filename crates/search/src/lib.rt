@@ -2,7 +2,6 @@
 // anything is written. An accepted query is searched as `nba` defines it, turn for turn, on the first entries of the lists.
 mod run;
 mod tables;
-mod turn;
 
 use network::Answer;
 use network::Lent;
@@ -63,7 +62,7 @@ fn searched(
     let length = best.length;
     let meeting = best.node;
     let figures = tables::count_states(states);
-    if tables::MISSING <= length {
+    if turn::MISSING <= length {
         return Answer::NoRoute(figures);
     }
     let nodes = tables::write_path(path, start_neighbours, end_neighbours, start, end, meeting);

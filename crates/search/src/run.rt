@@ -8,10 +8,9 @@ ghost use Rattle.network.specs.Query.{query};
 ghost use Rattle.nba.specs.Search.{endState};
 ghost use Rattle.search.specs.Run.{Beginning, Begun, Foreseen, Long, Taking, standing, swappedOf, tables, tablesOf, turnOf};
 use crate::tables;
-use crate::turn;
-use crate::turn::Best;
-use crate::turn::Candidate;
-use crate::turn::Progress;
+use turn::Best;
+use turn::Candidate;
+use turn::Progress;
 
 // The progress seen from the other side.
 fn swapped(p: Progress) -> Progress
@@ -118,7 +117,7 @@ fn begin(
     let own = next.own;
     let other = next.other;
     Progress {
-        length: tables::MISSING,
+        length: turn::MISSING,
         meeting: tables::NO_NODE,
         floor: forward[start as usize] as i64,
         beyond: backward[end as usize] as i64,

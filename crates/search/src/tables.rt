@@ -14,16 +14,13 @@ ghost use Rattle.nba.specs.State.{missing, noNode, undecided};
 ghost use Rattle.nba.specs.Result.{trail, turnedBefore};
 ghost use Rattle.search.specs.Tables.{figuresIn, together, Countable, onward, NodesBelow, pathThrough, atFront, PathRoom};
 use network::Figures;
-
-// A missing label.
-pub const MISSING: u32 = 4294967295;
+use turn::MISSING;
+use turn::UNDECIDED;
 
 // A missing neighbour.
 pub const NO_NODE: u16 = 65535;
 
-// A node's state: it is undecided, or a side opened it, or a side rejected it.
-pub const UNDECIDED: u8 = 0;
-
+// A node's state, where it is not undecided: a side opened it, or a side rejected it.
 pub const OPENED_BY_START: u8 = 1;
 
 pub const REJECTED_BY_START: u8 = 2;
