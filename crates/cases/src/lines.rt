@@ -15,7 +15,7 @@ pub fn answer(a: Answer, path: &[u16]) {
 
 // The entries of a query line's pattern.
 fn pattern(line: &[u8]) {
-    let mut entries = [0u8; 255];
+    let mut entries = [0u8; frames::MOST_PATTERN];
     let n = frames::pattern(line, &mut entries);
     show::states(b", pattern", &entries[..n], n);
 }

@@ -1,6 +1,6 @@
 -- The display's answer gathered byte by byte: what is written so far and what is still to come make up the answer, and it fits.
 -- Assumes nothing.
-use mathlib.Core.Path.{_≡_, ap, subst, _∙_}
+use mathlib.Core.Path.{_≡_, ap, subst}
 use mathlib.Core.Bool.{true}
 use mathlib.Core.List.{List, [], _++_, append-nil}
 use Prim.Native.Nat.{ℕ, suc, _+_, _-_, _≤_, _<_}
@@ -8,20 +8,14 @@ use native.Mathlib.Omega.{arith}
 use native.Mathlib.Numerals.{add-one}
 use lib.ListN.{length, take, drop, getD, length-append, drop-of-length-le}
 use lib.Seq.{drop-cons}
-use borrow.Author.Tests.{le-leb}
-use Rattle.frames.specs.Room.{placed, counted, Laid, Placed}
-use Rattle.frames.specs.RoomLaws.{Underway, underway-start, underway-more, underway-end, lent-room}
+use Rattle.frames.specs.Room.{Laid, Placed}
+use Rattle.frames.specs.RoomLaws.{Underway, underway-start, underway-more, underway-end, lent-room, placed-laid}
 use Rattle.district.specs.declared.Reader.{Reader}
 use Rattle.district.specs.declared.Taken.{Taken}
 use Rattle.district.specs.File.{takeByte, endOfInput, displayAnswer}
 use Rattle.district.specs.Reader.{Lists, fileOf, Roomy, Kept, Stepped, startReader, mostBytes, refusalBytes}
 use Rattle.district.specs.ReaderLaws.{start-file, start-kept}
 use Rattle.district.specs.FileLaws.{restOf, rest-whole, rest-none, rest-byte, display-short}
-
--- a text that fits where it was to be placed is laid there
-pub placed-laid : (text room after : List ℕ) (n : ℕ) → length text ≤ length room → Placed text room after n → Laid text room after n
-unfolding placed counted
-placed-laid text room after n fits p = record { count-is = p .count-is ∙ rw (le-leb _ _ fits); room-is = p .room-is ∙ rw (le-leb _ _ fits) }
 
 -- i bytes of the file are read, and `at` bytes of its answer stand at the front of the text
 pub record Gathering (file old : List ℕ) (r : Reader) (l : Lists) (text : List ℕ) (at i : ℕ) : Type 0 where

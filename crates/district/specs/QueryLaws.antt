@@ -30,8 +30,9 @@ use Rattle.frames.specs.LineSteps.{length-entries}
 use Rattle.frames.specs.declared.Frame.{Frame}
 use Rattle.frames.specs.declared.Frame.the-variants.{Size, Arc, TwoWay, Potentials, Query as QueryFrame, Unsound}
 use Rattle.frames.specs.AnswerLines.{answerLine, pathLine, answerLines}
-use Rattle.frames.specs.Room.{laid, placed, counted, Laid, Placed}
-use borrow.Author.Tests.{eq-eqb, ne-eqb, le-ltb, le-leb}
+use Rattle.frames.specs.Room.{laid, Laid, Placed}
+use Rattle.frames.specs.RoomLaws.{placed-laid}
+use borrow.Author.Tests.{eq-eqb, ne-eqb, le-ltb}
 use Rattle.district.specs.declared.Reader.{Reader}
 use Rattle.district.specs.File.{workRoom, queryLines, queryOn, withQuery, wrong, taken, takeQuery}
 use Rattle.district.specs.Reader.{Lists as DistrictLists, toldBy, fileOf, Counted, Roomy, Kept}
@@ -116,10 +117,7 @@ pattern-short s =
 
 -- so a list of 255 entries takes it whole
 pub pattern-whole : (s entries after : List ℕ) (n : ℕ) → length entries ≡ 255 → Placed (patternOf s) entries after n → Laid (patternOf s) entries after n
-unfolding placed counted
-pattern-whole s entries after n room p =
-    let fits : length (patternOf s) ≤ length entries = omega (arith, pattern-short s) in
-    record { count-is = p .count-is ∙ rw (le-leb _ _ fits); room-is = p .room-is ∙ rw (le-leb _ _ fits) }
+pattern-whole s entries after n room p = placed-laid (patternOf s) entries after n (omega (arith, pattern-short s)) p
 
 -- the first entries of a list at whose front a text is laid are the text
 pub laid-front : (text room after : List ℕ) (n : ℕ) → Laid text room after n → take n after ≡ text

@@ -19,9 +19,6 @@ use frames::Frame;
 use network::Lent;
 use network::Verdict;
 
-// A line's pattern has at most as many entries as two digits can count.
-const MOST_ENTRIES: usize = 255;
-
 // What a query is answered before any search: 4 or 5 from its trip, and then what the network itself is refused for, which was
 // found when its last potentials were read. The work lists have room for the most nodes, so no query is refused for its room.
 fn verdict_on(own: Verdict, nodes: u16, start: u16, end: u16, pattern: &[u8]) -> Verdict
@@ -136,7 +133,7 @@ fn answer_query(
     requires { ⌜ Known own (network nodes (now tails) (now heads) (now weights)) (now forward) (now backward) ⌝ }
     ensures { λ r. ⌜ Placed (queryLines (query (network nodes (now (tails .entry)) (now (heads .entry)) (now (weights .entry))) (now (forward .entry)) (now (backward .entry)) start end (patternOf (now (line .entry))))) (now (room .entry)) (now (room .exit)) r ⌝ }
 {
-    let mut entries = [0u8; MOST_ENTRIES];
+    let mut entries = [0u8; frames::MOST_PATTERN];
     let n = frames::pattern(line, &mut entries);
     write_lines(
         own,

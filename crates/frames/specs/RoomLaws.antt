@@ -1,14 +1,16 @@
 -- Texts laid part by part. A text is underway in a room while its first entries stand at the front, the rest is still to come,
 -- and nothing beyond has changed; each writer takes it one part further. Assumes nothing.
 use mathlib.Core.Path.{_≡_, refl, sym, ap, subst, _∙_}
+use mathlib.Core.Bool.{Bool, true, false, cond}
 use mathlib.Core.List.{List, [], _∷_, _++_, append-assoc, append-nil}
 use Prim.Native.Nat.{ℕ, suc, _+_, _-_, _<_, _≤_}
 use native.Mathlib.Omega.{arith}
 use native.Mathlib.Nat.{le-refl}
 use native.Mathlib.Numerals.{add-one}
+use lib.Dec.{leb}
 use lib.ListN.{length, take, drop, set, length-append, length-drop, length-set, take-append-drop, drop-of-length-le}
 use lib.Seq.{drop-drop, take-all, take-at, drop-at, take-suc-set, drop-set-lt, length-take-le}
-use borrow.Author.Tests.{le-leb, lt-leb}
+use borrow.Author.Tests.{le-leb, lt-leb, leb-true}
 use Rattle.frames.specs.Room.{laid, placed, counted, Laid, Placed}
 
 -- `at` entries of the text stand at the front of the room, `left` is still to come, and the room was `old`
@@ -21,6 +23,20 @@ pub record Underway (text old room : List ℕ) (at : ℕ) (left : List ℕ) : Ty
 length-laid : (text room : List ℕ) → length text ≤ length room → length (laid text room) ≡ length room
 unfolding laid
 length-laid text room h = simp (length-append, length-drop) (omega arith)
+
+-- a text that fits where it was to be placed is laid there
+pub placed-laid : (text room after : List ℕ) (n : ℕ) → length text ≤ length room → Placed text room after n → Laid text room after n
+unfolding placed counted
+placed-laid text room after n fits p = record { count-is = p .count-is ∙ rw (le-leb _ _ fits); room-is = p .room-is ∙ rw (le-leb _ _ fits) }
+
+-- what is counted of a text that was to be placed lies within the room
+pub placed-within : {text room after : List ℕ} {n : ℕ} → Placed text room after n → n ≤ length room
+unfolding counted
+placed-within {text} {room} p = rw (p .count-is) (within (leb (length text) (length room)) refl)
+  where
+    within : (b : Bool) → leb (length text) (length room) ≡ b → cond b (length text) 0 ≤ length room
+    within true e = leb-true _ _ e
+    within false e = omega arith
 
 -- a text before what follows its length is laid
 pub laid-before : (text room : List ℕ) (n : ℕ) → length text ≡ n → text ++ drop n room ≡ laid text room

@@ -37,8 +37,11 @@ const POTENTIALS_DIGITS: usize = 2 + 4 + 8 + 8;
 // The digits of a query frame, 04, before its entries.
 const QUERY_DIGITS: usize = 2 + 4 + 4 + 2;
 
-// The most digits that an input frame can have: a query whose pattern is as long as two digits can say.
-pub const MOST_DIGITS: usize = QUERY_DIGITS + 255;
+// The most entries that a query's line can carry: as many as two digits can say.
+pub const MOST_PATTERN: usize = 255;
+
+// The most digits that an input frame can have: a query with that many entries.
+pub const MOST_DIGITS: usize = QUERY_DIGITS + MOST_PATTERN;
 
 const LINE_FEED: u8 = 10;
 

@@ -1,17 +1,17 @@
 -- Laws of a part of the input: it begins with no byte taken, each byte takes it one further, and parts one after the other make
 -- up the whole. Assumes nothing.
 use mathlib.Core.Path.{_≡_, refl, ap, _∙_}
-use mathlib.Core.Bool.{Bool, true, false, cond}
+use mathlib.Core.Bool.{Bool}
 use mathlib.Core.List.{List, [], _∷_, _++_, append-nil, append-assoc}
 use Prim.Native.Nat.{ℕ, _+_, _-_, _≤_, _<_}
 use native.Mathlib.Omega.{arith}
 use native.Mathlib.Nat.{le-refl}
 use native.Mathlib.Numerals.{add-one}
-use lib.Dec.{leb}
 use lib.ListN.{length, take, drop, getD, length-append, length-drop, drop-of-length-le}
 use lib.Seq.{take-suc, take-all, take-at, take-add, length-take-le}
-use borrow.Author.Tests.{le-leb, leb-true}
+use borrow.Author.Tests.{le-leb}
 use Rattle.frames.specs.Room.{laid, placed, counted, Placed}
+use Rattle.frames.specs.RoomLaws.{placed-within}
 use Rattle.district.specs.declared.Reader.{Reader}
 use Rattle.district.specs.declared.Taken.{Taken}
 use Rattle.district.specs.File.{File, step, takeByte, feed}
@@ -146,15 +146,6 @@ passes-start chunk r l k = record { file-is = refl; kept = k }
 pub passes-all : (f : File) (chunk : List ℕ) (from : ℕ) (r : Reader) (l : Lists) → length chunk ≤ from → Passes f (take from chunk) r l → Passes f chunk r l
 passes-all f chunk from r l h p = rw (take-all from chunk h) at p
 
--- what is written of a text lies within the room
-placed-within : (text room after : List ℕ) (count : ℕ) → Placed text room after count → count ≤ length room
-unfolding counted
-placed-within text room after count p = rw (p .count-is) (within (leb (length text) (length room)) refl)
-  where
-    within : (b : Bool) → leb (length text) (length room) ≡ b → cond b (length text) 0 ≤ length room
-    within true e = leb-true _ _ e
-    within false e = omega arith
-
 -- ---- the beginning and the end of the input
 -- a reader that is made at the beginning, with lists that have room
 pub started : (r : Reader) (single : Bool) (line : ℕ) (l : Lists) → r ≡ startReader single line → Roomy l → Kept r l
@@ -162,4 +153,4 @@ started r single line l e h = rw e (start-kept single line l h)
 
 -- what the end of input prints lies within the room
 pub ended-within : (r : Reader) (room after : List ℕ) (written : ℕ) → Reached r → Ended r room after written → written ≤ length room
-ended-within r room after written left e = placed-within _ room after written (e .law (left .over) (left .kept))
+ended-within r room after written left e = placed-within (e .law (left .over) (left .kept))

@@ -1,8 +1,6 @@
 -- `routeline::finish` meets its contract: what the end of input prints lies within the room. Assumes nothing.
 use mathlib.Core.Path.{sym}
-use Prim.Native.Nat.{_≤_}
 use native.Mathlib.Omega.{arith}
-use lib.ListN.{length}
 use lib.Seq.{length-take-le}
 use Rattle.routeline.specs.PartLaws.{ended-within}
 use borrow.Author.Needs.{needs}

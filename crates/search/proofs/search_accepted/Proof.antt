@@ -8,7 +8,6 @@ use Rattle.network.specs.Query.{Query, query}
 use Rattle.network.specs.SoundLaws.{accepted-sound, accepted-enough}
 use Rattle.search.specs.Promise.{Lists, lists, lengths}
 use Rattle.search.proofs.AnswerLaws.{cut-long, cut-left, cut-same}
-use borrow.Author.Needs.{needs}
 use Rattle.search.proofs.search_accepted.Statement.{statement}
 use Rattle.search.proofs.search_accepted.Tie as tie
 

@@ -3,7 +3,7 @@ use mathlib.Core.Path.{sym}
 use lib.Seq.{length-take-le}
 use native.Mathlib.Omega.{arith}
 use borrow.Author.Needs.{needs}
-use Rattle.cases.proofs.Written.{within}
+use Rattle.frames.specs.RoomLaws.{placed-within}
 use Rattle.cases.proofs.lines.answer.Statement.{statement}
 use Rattle.cases.proofs.lines.answer.Tie as tie
 
@@ -14,7 +14,7 @@ write-answer-requires : tie.Need-write-answer-requires
 write-answer-requires c κs = search needs
 
 array-share-prefix-room : tie.Need-array-share-prefix-room
-array-share-prefix-room c = omega (arith, within (c .before .write-answer .ensures))
+array-share-prefix-room c = omega (arith, placed-within (c .before .write-answer .ensures))
 
 slice-aggregate-text : tie.Need-slice-aggregate-text
 slice-aggregate-text c = sym (length-take-le _ _ (array-share-prefix-room (c .before)))

@@ -2,7 +2,7 @@
 use mathlib.Core.Path.{sym}
 use native.Mathlib.Omega.{arith}
 use lib.Seq.{length-take-le}
-use Rattle.cases.proofs.Written.{within}
+use Rattle.frames.specs.RoomLaws.{placed-within}
 use borrow.Author.Needs.{needs}
 use Rattle.cases.proofs.lines.pattern.Statement.{statement}
 use Rattle.cases.proofs.lines.pattern.Tie as tie
@@ -17,7 +17,7 @@ slice-aggregate-states : tie.Need-slice-aggregate-states
 slice-aggregate-states c = search needs
 
 array-share-prefix-entries : tie.Need-array-share-prefix-entries
-array-share-prefix-entries c = omega (arith, within (c .before .before .pattern .ensures))
+array-share-prefix-entries c = omega (arith, placed-within (c .before .before .pattern .ensures))
 
 slice-aggregate-states-2 : tie.Need-slice-aggregate-states-2
 slice-aggregate-states-2 c = sym (length-take-le _ _ (array-share-prefix-entries (c .before)))
