@@ -32,3 +32,4 @@ pub mod Accepted
 pub mod Cases
 pub mod Literal
 pub mod LiteralLaws
+pub mod Longest
