@@ -31,7 +31,7 @@ use Rattle.network.specs.SoundLaws.{accepted-sound}
 use Rattle.network.specs.CaseSplit.{by-lt}
 use Rattle.nba.specs.State.{missing}
 use Rattle.nba.specs.Search.{endState}
-use Rattle.nba.specs.Result.{pathOf, figuresAt, found, answerTo}
+use Rattle.nba.specs.Result.{pathOf, figuresIn, found, answerTo}
 use Rattle.nba.specs.Demands.{mostLength, WalkOfLength}
 use Rattle.nba.specs.EndLaws.{route-answered, no-route-answered}
 use Rattle.nba.specs.PathLaws.{joined-walk}
@@ -244,8 +244,8 @@ along-answered n few =
     let same : endState q .best ≡ n * mostWeight = omega arith in
     record {
       nodes = length (pathOf q (endState q));
-      figures = figuresAt (endState q);
-      answered = rw (along-accepted n few) (e ∙ ap (λ l. Route l (length (pathOf q (endState q))) (figuresAt (endState q))) same);
+      figures = figuresIn (endState q .states);
+      answered = rw (along-accepted n few) (e ∙ ap (λ l. Route l (length (pathOf q (endState q))) (figuresIn (endState q .states))) same);
     })
     (λ h. absurd (d .no-walk (no-route-answered q (endState q) h) (n * mostWeight) (along-walk n few)))
 

@@ -23,7 +23,7 @@ use Rattle.network.specs.Query.{Query}
 use Rattle.network.specs.Refusal.{queryVerdict}
 use Rattle.nba.specs.State.{missing, present, labelOf, stateOf}
 use Rattle.nba.specs.Search.{endState}
-use Rattle.nba.specs.Result.{figuresAt, answerAt, found}
+use Rattle.nba.specs.Result.{figuresIn, answerAt, found}
 use Rattle.nba.specs.Demands.{Joined, alone, next, path}
 use Rattle.nba.specs.CodeLaws.{end-state-tabled}
 use Rattle.nba.specs.Theorems.{demand-2, demand-3-opened-end, demand-3-bound, figures-end, path-fits}
@@ -76,16 +76,16 @@ route-shown : (q : Query) {l n : ℕ} {f : Figures} → found q ≡ Route l n f 
 unfolding found answerAt shownPath
 route-shown q {l} {n} {f} = by (present (endState q .best))
   where
-    by : (b : Bool) → cond b (Route (endState q .best) (length (path q)) (figuresAt (endState q))) (NoRoute (figuresAt (endState q))) ≡ Route l n f → cond b (path q) [] ≡ path q
+    by : (b : Bool) → cond b (Route (endState q .best) (length (path q)) (figuresIn (endState q .states))) (NoRoute (figuresIn (endState q .states))) ≡ Route l n f → cond b (path q) [] ≡ path q
     by true e = refl
     by false e = let z : _≡_ {A = ℕ} 0 1 = cc in absurd (omega arith)
 
 -- the figures of the search's answer are those of its state at the end
-figures-found : (q : Query) {f : Figures} → HasFigures (found q) f → f ≡ figuresAt (endState q)
+figures-found : (q : Query) {f : Figures} → HasFigures (found q) f → f ≡ figuresIn (endState q .states)
 unfolding found answerAt
 figures-found q = by (present (endState q .best))
   where
-    by : (b : Bool) {f : Figures} → HasFigures (cond b (Route (endState q .best) (length (path q)) (figuresAt (endState q))) (NoRoute (figuresAt (endState q)))) f → f ≡ figuresAt (endState q)
+    by : (b : Bool) {f : Figures} → HasFigures (cond b (Route (endState q .best) (length (path q)) (figuresIn (endState q .states))) (NoRoute (figuresIn (endState q .states)))) f → f ≡ figuresIn (endState q .states)
     by true of-route = refl
     by false of-none = refl
 
