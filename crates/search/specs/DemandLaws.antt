@@ -69,6 +69,7 @@ pattern-accepted q l p v fine = accepted-exactly-when (withPattern p q) l .1 (λ
   where
     none : {n place : ℕ} → Condition q l n place → ⊥
     none {n} {place} = accepted-exactly-when q l .0 v n place
+
     by : {n place : ℕ} → Condition (withPattern p q) l n place → ⊥
     by (of-node-count h) = none (of-node-count h)
     by (of-arc-lists h) = none (of-arc-lists h)

@@ -92,8 +92,15 @@ pub fn search_accepted(
     states: &mut [u8],
     path: &mut [u16],
 ) -> Answer
-    requires { ⌜ queryVerdict (asked (network nodes (now tails) (now heads) (now weights)) (now forward) (now backward) start end (now pattern)) (lengths (lentLists (now «start_labels») (now «start_neighbours») (now «end_labels») (now «end_neighbours») (now states) (now path))) ≡ Verdict.Accepted ⌝ }
-    ensures { λ r. ⌜ left r (lentLists (now («start_labels» .exit)) (now («start_neighbours» .exit)) (now («end_labels» .exit)) (now («end_neighbours» .exit)) (now (states .exit)) (now (path .exit))) ≡ searchLeaves (asked (network nodes (now (tails .entry)) (now (heads .entry)) (now (weights .entry))) (now (forward .entry)) (now (backward .entry)) start end (now (pattern .entry))) (lentLists (now («start_labels» .entry)) (now («start_neighbours» .entry)) (now («end_labels» .entry)) (now («end_neighbours» .entry)) (now (states .entry)) (now (path .entry))) ⌝ }
+    requires { ⌜ queryVerdict
+        (asked (network nodes (now tails) (now heads) (now weights)) (now forward) (now backward) start end (now pattern))
+        (lengths (lentLists (now «start_labels») (now «start_neighbours») (now «end_labels») (now «end_neighbours») (now states) (now path)))
+        ≡ Verdict.Accepted ⌝ }
+    ensures { λ r. ⌜ left r
+        (lentLists (now («start_labels» .exit)) (now («start_neighbours» .exit)) (now («end_labels» .exit)) (now («end_neighbours» .exit)) (now (states .exit)) (now (path .exit)))
+        ≡ searchLeaves
+        (asked (network nodes (now (tails .entry)) (now (heads .entry)) (now (weights .entry))) (now (forward .entry)) (now (backward .entry)) start end (now (pattern .entry)))
+        (lentLists (now («start_labels» .entry)) (now («start_neighbours» .entry)) (now («end_labels» .entry)) (now («end_neighbours» .entry)) (now (states .entry)) (now (path .entry))) ⌝ }
 {
     let n = nodes as usize;
     searched(
