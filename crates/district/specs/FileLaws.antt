@@ -17,7 +17,7 @@ use Rattle.network.specs.Refusal.{queryVerdict}
 use Rattle.network.specs.Given.{Sound}
 use Rattle.network.specs.SoundLaws.{accepted-sound}
 use Rattle.nba.specs.Search.{endState}
-use Rattle.nba.specs.Result.{pathOf, found, answered, answerTo}
+use Rattle.nba.specs.Result.{pathOf, found, refusedOr, answerTo}
 use Rattle.nba.specs.Theorems.{path-fits}
 use Rattle.frames.specs.AnswerLines.{answerLines}
 use Rattle.frames.specs.AnswerLaws.{length-refused, length-no-route, length-route}
@@ -64,7 +64,7 @@ pub query-short : (q : Query) → length (queryLines q) ≤ mostBytes
 unfolding queryLines answerTo
 query-short q = go (queryVerdict q workRoom) refl
   where
-    go : (v : Verdict) → queryVerdict q workRoom ≡ v → length (answerLines (answered v (found q)) (pathOf q (endState q))) ≤ mostBytes
+    go : (v : Verdict) → queryVerdict q workRoom ≡ v → length (answerLines (refusedOr v (found q)) (pathOf q (endState q))) ≤ mostBytes
     go (Refusal c) e = omega (arith, length-refused c (pathOf q (endState q)))
     go Accepted e = found-short q (accepted-sound q workRoom e) (found q) refl (pathOf q (endState q))
 

@@ -21,7 +21,7 @@ use Rattle.network.specs.Refusal.{firstRefusal, badNodeCount, badArcLists, badP
 use Rattle.network.specs.RefusalLaws.{query-of-sound-lists, network-of-sound-lists}
 use Rattle.nba.specs.State.{State, present}
 use Rattle.nba.specs.Search.{endState}
-use Rattle.nba.specs.Result.{pathOf, answerAt, figuresAt, found, answerTo}
+use Rattle.nba.specs.Result.{pathOf, answerAt, figuresIn, found, answerTo}
 use Rattle.search.specs.Tables.{atFront}
 use Rattle.search.specs.Promise.{LentLists, shownPath, listsAfter, Left, left, searchLeaves}
 use Rattle.frames.specs.Frame.{mostDigits, frameOf, patternDigits, entriesOf, patternOf}
@@ -41,11 +41,11 @@ use Rattle.district.specs.ReaderLaws.{with-all}
 
 -- the lines of what a search found, from the path list that it leaves
 front-lines : (q : Query) (st : State) (old : List ℕ) (t : Bool) (path : List ℕ) → path ≡ pathOf q st
-    → answerLines (cond t (Route (st .best) (length path) (figuresAt st)) (NoRoute (figuresAt st))) (cond t path [] ++ drop (length (cond t path [])) old)
-    ≡ answerLines (cond t (Route (st .best) (length path) (figuresAt st)) (NoRoute (figuresAt st))) path
+    → answerLines (cond t (Route (st .best) (length path) (figuresIn (st .states))) (NoRoute (figuresIn (st .states)))) (cond t path [] ++ drop (length (cond t path [])) old)
+    ≡ answerLines (cond t (Route (st .best) (length path) (figuresIn (st .states))) (NoRoute (figuresIn (st .states)))) path
 front-lines q st old false path e = refl
 front-lines q st old true path e =
-    ap (λ (p : List ℕ). answerLine (Route (st .best) (length path) (figuresAt st)) ++ pathLine p)
+    ap (λ (p : List ℕ). answerLine (Route (st .best) (length path) (figuresIn (st .states))) ++ pathLine p)
     (take-at path (drop (length path) old) (length path) refl ∙ sym (take-all (length path) path (le-refl (length path))))
 
 found-lines : (q : Query) (old : List ℕ) → answerLines (found q) (atFront (shownPath q (endState q)) old) ≡ answerLines (found q) (pathOf q (endState q))

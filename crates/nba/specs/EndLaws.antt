@@ -3,7 +3,6 @@
 use mathlib.Core.Path.{_≡_, refl, ap, _∙_}
 use mathlib.Core.Logic.{_≢_}
 use mathlib.Core.Bool.{true, false}
-use mathlib.Core.List.{_∷_}
 use Prim.Native.Nat.{ℕ, suc, _+_, _≤_, _<_}
 use native.Mathlib.Omega.{arith}
 use lib.Dec.{eqb}
@@ -16,18 +15,19 @@ use Rattle.network.specs.Query.{Query, source}
 use Rattle.network.specs.Given.{Sound}
 use Rattle.network.specs.CaseSplit.{by-bool, by-lt, true≢false}
 use Rattle.nba.specs.State.{missing, present, State, half, labelOf}
-use Rattle.nba.specs.Search.{ended, afterTurns, atOnce, endState}
-use Rattle.nba.specs.Result.{trail, trailOf, pathOf, figuresAt, answerAt}
+use Rattle.nba.specs.Search.{ended, atOnce, endState}
+use Rattle.nba.specs.ByMark.{afterTurnsByMark}
+use Rattle.nba.specs.Result.{pathOf, figuresIn, answerAt}
 use Rattle.nba.specs.Demands.{WalkOfLength, Joined, NoneTwice}
-use Rattle.nba.specs.CodeLaws.{at-once-tabled, stays-ended, end-unsearched, end-searched}
+use Rattle.nba.specs.CodeLaws.{at-once-tabled, stays-ended, end-unsearched}
 use Rattle.nba.specs.BeginningLaws.{at-once-begun, begun-source}
 use Rattle.nba.specs.Trails.{Trail, at-source, HasTrail, trail-short}
-use Rattle.nba.specs.TrailLaws.{length-turned-before, length-trail}
 use Rattle.nba.specs.PathLaws.{path-joined, path-none-twice}
 use Rattle.nba.specs.ShortWalk.{walk-beside}
 use Rattle.nba.specs.Ways.{walk-inside}
 use Rattle.nba.specs.Invariant.{Orderly, Invariant}
 use Rattle.nba.specs.RunLaws.{ends, begun-orderly, orderly, invariant, ended-least}
+use Rattle.nba.specs.ByMarkLaws.{same-end}
 
 -- ---- reading an answer
 -- a route answered: the best length is present, and is its length
@@ -50,26 +50,27 @@ no-route-read q st f =
     (λ t. rw t (λ e. absurd (let z : _≡_ {A = ℕ} 0 1 = cc in omega arith)))
     (λ t e. ltb-false (st .best) missing t)
 
-pub route-answered : (q : Query) (st : State) → st .best < missing → answerAt q st ≡ Route (st .best) (length (pathOf q st)) (figuresAt st)
+pub route-answered : (q : Query) (st : State) → st .best < missing → answerAt q st ≡ Route (st .best) (length (pathOf q st)) (figuresIn (st .states))
 unfolding answerAt
 route-answered q st h = rw (lt-ltb (st .best) missing h)
 
-pub no-route-answered : (q : Query) (st : State) → missing ≤ st .best → answerAt q st ≡ NoRoute (figuresAt st)
+pub no-route-answered : (q : Query) (st : State) → missing ≤ st .best → answerAt q st ≡ NoRoute (figuresIn (st .states))
 unfolding answerAt
 no-route-answered q st h = rw (le-ltb (st .best) missing h)
 
 -- ---- the meeting node
--- the meeting node is a node, with a trail of fewer arcs than nodes on each side; the labels sum to the best length
+-- the meeting node is a node, with a trail on each side of fewer arcs than the side has neighbours; the labels sum to the best
+-- length
 pub record Meeting (q : Query) (st : State) : Type 0 where
   pub inside : st .meeting < q .network .nodes
   pub arcs : Side → ℕ
-  pub short : (s : Side) → arcs s < q .network .nodes
+  pub short : (s : Side) → arcs s < length (half s st .neighbours)
   pub trail : (s : Side) → Trail q st s (st .meeting) (arcs s)
   pub sum : labelOf start st (st .meeting) + labelOf end st (st .meeting) ≡ st .best
 
 -- before every turn: where the best length is present
-pub meeting : {q : Query} {st : State} → Sound q → Invariant q st → st .best < missing → Meeting q st
-meeting {q} {st} sound inv h =
+has-meeting : {q : Query} {st : State} → Sound q → Invariant q st → st .best < missing → Meeting q st
+has-meeting {q} {st} sound inv h =
     let m = inv .worth start .met h .sum in
     let o = inv .orderly in
     let labelled : (s : Side) → labelOf s st (st .meeting) < missing = λ s. by s m in
@@ -78,7 +79,7 @@ meeting {q} {st} sound inv h =
     record {
       inside = i;
       arcs = λ s. has s .arcs;
-      short = λ s. trail-short sound (o .tabled) (o .trails s) i (has s);
+      short = λ s. omega (arith, trail-short sound (o .tabled) (o .trails s) i (has s), o .tabled .neighbours-long s);
       trail = λ s. has s .trail;
       sum = m;
     }
@@ -86,17 +87,6 @@ meeting {q} {st} sound inv h =
     by : (s : Side) → labelOf start st (st .meeting) + labelOf end st (st .meeting) ≡ st .best → labelOf s st (st .meeting) < missing
     by start e = omega arith
     by end e = omega arith
-
--- the path has the nodes of both trails and the meeting node
-pub path-length : {q : Query} {st : State} → (m : Meeting q st) → length (pathOf q st) ≡ m .arcs start + suc (m .arcs end)
-unfolding pathOf trailOf
-path-length {q} {st} m =
-    let n = q .network .nodes in
-    let i = m .short start in
-    let j = m .short end in
-    let p = trail (half start st .neighbours) (q .start) n (st .meeting) in
-    let r = trail (half end st .neighbours) (q .end) n (st .meeting) in
-    omega (arith, length-turned-before p (st .meeting ∷ r), length-trail {q = q} {st = st} n (omega arith) (m .trail start), length-trail {q = q} {st = st} n (omega arith) (m .trail end))
 
 -- start equal to end
 at-once-best : (q : Query) → atOnce q .best ≡ 0
@@ -107,7 +97,7 @@ at-once-meeting : (q : Query) → atOnce q .meeting ≡ q .start
 unfolding atOnce
 at-once-meeting q = refl
 
-pub meeting-at-once : {q : Query} → Sound q → q .start ≡ q .end → Meeting q (atOnce q)
+meeting-at-once : {q : Query} → Sound q → q .start ≡ q .end → Meeting q (atOnce q)
 meeting-at-once {q} sound e =
     let b = at-once-begun q in
     let home : (s : Side) → atOnce q .meeting ≡ source s q = by in
@@ -115,7 +105,7 @@ meeting-at-once {q} sound e =
     record {
       inside = rw (at-once-meeting q) (sound .source-in start);
       arcs = λ s. 0;
-      short = λ s. sound .sized .some-nodes;
+      short = λ s. omega (arith, sound .sized .some-nodes, at-once-tabled q .neighbours-long s);
       trail = λ s. at-source (home s) (zero-label s);
       sum = omega (arith, zero-label start, zero-label end, at-once-best q);
     }
@@ -140,14 +130,13 @@ module _ {q : Query} (sound : Sound q) where
       let r = walk-beside sound (sound .source-in start) p in
       omega (arith, r .no-longer, f (r .total) (omega (arith, r .small)) (r .walk))
 
-  pub end-state-ends : q .start ≢ q .end → endState q ≡ afterTurns q (ends sound .turns)
+  pub end-state-ends : q .start ≢ q .end → endState q ≡ afterTurnsByMark q (ends sound .turns)
   end-state-ends d =
       let e = ends sound in
-      by-bool (eqb (q .start) (q .end)) (λ t. absurd (d (eqb-true (q .start) (q .end) t)))
-      (λ t. end-searched q t ∙ stays-ended q (e .turns) (q .network .nodes) (e .over) (e .few))
+      same-end sound d ∙ stays-ended q (e .turns) (q .network .nodes) (e .over) (e .few)
 
   -- before the search has ended, fewer turns are over than there are nodes
-  pub going-few : (i : ℕ) → ended q (afterTurns q i) ≡ false → i < q .network .nodes
+  pub going-few : (i : ℕ) → ended q (afterTurnsByMark q i) ≡ false → i < q .network .nodes
   going-few i h =
       let e = ends sound in
       by-lt i (e .turns) (λ l. omega (arith, e .few))
@@ -164,13 +153,13 @@ module _ {q : Query} (sound : Sound q) where
     least = λ l p. omega (arith, at-once-best q);
   }
 
-  run-end : q .start ≢ q .end → AtEnd q (afterTurns q (ends sound .turns))
+  run-end : q .start ≢ q .end → AtEnd q (afterTurnsByMark q (ends sound .turns))
   run-end d =
       let e = ends sound in
       let inv = invariant sound d (e .turns) in
       record {
         orderly = inv .orderly;
-        meeting = λ h. meeting sound inv h;
+        meeting = λ h. has-meeting sound inv h;
         least = all-walks (ended-least sound inv (e .over));
       }
 

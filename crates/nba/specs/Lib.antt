@@ -2,7 +2,7 @@ pub mod State
 pub mod Search
 pub mod Result
 pub mod Demands
-pub mod Scan
+pub mod ByMark
 pub mod Tabled
 pub mod StateLaws
 pub mod CodeLaws
@@ -25,10 +25,9 @@ pub mod RunLaws
 pub mod TrailLaws
 pub mod PathLaws
 pub mod ShortWalk
+pub mod ByMarkLaws
 pub mod EndLaws
 pub mod Fits
 pub mod Theorems
 pub mod Accepted
 pub mod Cases
-pub mod Literal
-pub mod LiteralLaws

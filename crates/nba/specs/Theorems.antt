@@ -1,6 +1,6 @@
 -- Demands 2 and 3, of every accepted query and every turn pattern. Each is read off the invariant and the state at the end.
 -- Assumes nothing.
-use mathlib.Core.Path.{_≡_, ap, _∙_}
+use mathlib.Core.Path.{_≡_, sym, ap, _∙_}
 use mathlib.Core.Logic.{_≢_}
 use mathlib.Core.Bool.{true, false}
 use mathlib.Core.List.{List}
@@ -8,13 +8,13 @@ use Prim.Native.Nat.{ℕ, zero, suc, _+_, _≤_, _<_}
 use native.Mathlib.Omega.{arith}
 use native.Mathlib.Nat.{le-refl}
 use lib.Dec.{eqb}
-use lib.IntN.{pos, _+ℤ_, _-ℤ_}
+use lib.IntN.{pos}
 use lib.ListN.{length, getD, List·getD-eq-default}
 use lib.Signed.{leZ}
 use borrow.Author.Tests.{ltb-true, le-leb, eqb-true, eqb-false}
 use Rattle.network.specs.declared.Figures.{Figures}
 use Rattle.network.specs.declared.Answer.the-variants.{Route}
-use Rattle.network.specs.Network.{Side, start, end, other}
+use Rattle.network.specs.Network.{Side, start, end}
 use Rattle.network.specs.Walk.{Walk}
 use Rattle.network.specs.WalkLaws.{walk-is, walk-turned}
 use Rattle.network.specs.Potential.{potentialAt}
@@ -24,12 +24,12 @@ use Rattle.network.specs.CaseSplit.{by-eq, by-lt, by-bool}
 use Rattle.network.specs.Shift.{up, low-mag, up-within}
 use Rattle.network.specs.PotentialLaws.{shift, shifted}
 use Rattle.nba.specs.State.{missing, present, State, half, labelOf, neighbourOf, stateOf, openedBy}
-use Rattle.nba.specs.Search.{keyOf, rejects, rejected, afterTurns, atOnce, endState}
-use Rattle.nba.specs.Result.{figuresAt, found}
-use Rattle.nba.specs.Demands.{WalkOfLength, Demand2, Demand3Turns, Demand3Opened, Demand3Bound, withPattern, SameLengthAndVerdict, both-routes, both-none, BelowTheMark}
+use Rattle.nba.specs.Search.{keyOf, target, boundByTarget, rejected, afterTurns, atOnce, endState}
+use Rattle.nba.specs.ByMark.{afterTurnsByMark}
+use Rattle.nba.specs.Result.{figuresIn, found}
+use Rattle.nba.specs.Demands.{WalkOfLength, Demand2Found, Demand3Turns, Demand3Opened, Demand3Bound, withPattern, SameLengthAndVerdict, both-routes, both-none, BelowTheMark}
 use Rattle.nba.specs.Fits.{EntriesFit, FiguresFit, PathFits}
-use Rattle.nba.specs.CodeLaws.{after-turns-tabled}
-use Rattle.nba.specs.Measures.{potential, target}
+use Rattle.nba.specs.Measures.{potential}
 use Rattle.nba.specs.MeasureLaws.{opened-some, taken-opened, shiftable}
 use Rattle.nba.specs.LeastLaws.{key-lifted, key-shifted}
 use Rattle.nba.specs.CountLaws.{count-left}
@@ -40,6 +40,7 @@ use Rattle.nba.specs.PathLaws.{Every, of-none, of-more, joined-is, joine
 use Rattle.nba.specs.ShortWalk.{walk-beside, none-twice-short, joined-inside, joined-some}
 use Rattle.nba.specs.Invariant.{Orderly, Invariant}
 use Rattle.nba.specs.RunLaws.{ends, turns-figure, orderly, invariant, turn-leaves, left-once}
+use Rattle.nba.specs.ByMarkLaws.{same-search}
 use Rattle.nba.specs.EndLaws.{RouteRead, route-read, no-route-read, route-answered, no-route-answered, at-end, end-state-ends, end-state-at-once, path-real, path-once}
 
 -- ---- demand 2
@@ -52,7 +53,7 @@ module _ {q : Query} (sound : Sound q) where
   unfolding found
   read {l} {n} {f} e = route-read q (endState q) l n f e
 
-  pub demand-2 : Demand2 q
+  pub demand-2 : Demand2Found q
   unfolding found
   demand-2 =
       let a = at-end sound in
@@ -73,19 +74,20 @@ module _ {q : Query} (sound : Sound q) where
 
 -- ---- demand 3
 -- the search ends in at most as many turns as there are nodes, and each node leaves once
-pub demand-3-turns : {q : Query} → Sound q → q .start ≢ q .end → Demand3Turns q (figuresAt (endState q) .turns)
+pub demand-3-turns : {q : Query} → Sound q → q .start ≢ q .end → Demand3Turns q (figuresIn (endState q .states) .turns)
 demand-3-turns {q} sound d =
     let e = ends sound in
     let at = end-state-ends sound d in
-    let st = afterTurns q (e .turns) in
-    let same : figuresAt (endState q) .turns ≡ e .turns = ap (λ st. figuresAt st .turns) at ∙ omega (arith, turns-figure sound st (after-turns-tabled q (e .turns) .states-long), e .left-are-turns) in
-    rw same (record {
+    let st = afterTurnsByMark q (e .turns) in
+    let same = same-search sound d in
+    let turns : figuresIn (endState q .states) .turns ≡ e .turns = ap (λ (st : State). figuresIn (st .states) .turns) at ∙ omega (arith, turns-figure sound st (orderly sound (e .turns) .tabled .states-long), e .left-are-turns) in
+    rw turns (record {
       few = e .few;
-      going = e .going;
-      one-leaves = λ i l. turn-leaves sound i (e .going i l);
-      over = e .over;
-      at-end = at;
-      once = left-once sound;
+      going = λ i l. rw (same i) (e .going i l);
+      one-leaves = λ i l. rw (same i, same (suc i)) (turn-leaves sound i (e .going i l));
+      over = rw (same (e .turns)) (e .over);
+      at-end = at ∙ sym (same (e .turns));
+      once = λ v i j. rw (same i, same j) (left-once sound v i j);
     })
 
 -- a walk from start to end, as a walk of a side from its source to its target
@@ -95,14 +97,14 @@ walk-of-side q end p = walk-turned p
 
 -- the bound in signed numbers
 signed-bound : {q : Query} → Sound q → (s : Side) (st : State) (v l : ℕ) → labelOf s st v + potential q s v ≤ l + potential q s (target q s)
-    → leZ ((pos (labelOf s st v) +ℤ potentialAt (potentials s q) v) -ℤ potentialAt (potentials s q) (source (other s) q)) (pos l) ≡ true
+    → leZ (boundByTarget q s st v) (pos l) ≡ true
 unfolding shifted
 signed-bound {q} sound s st v l h =
     let labels = half s st .labels in
     let p = potentials s q in
-    let t = potentialAt p (source (other s) q) in
+    let t = potentialAt p (target q s) in
     let k = keyOf labels p v in
-    up-within shift l k t (key-lifted (shiftable sound s) labels v) (low-mag shift t (shiftable sound s .fits (source (other s) q)))
+    up-within shift l k t (key-lifted (shiftable sound s) labels v) (low-mag shift t (shiftable sound s .fits (target q s)))
     ∙ le-leb (up shift k) (l + up shift t) (omega (arith, key-shifted (shiftable sound s) labels v))
 
 opened-right : {q : Query} {st : State} → Sound q → Invariant q st → Demand3Opened q st
@@ -116,7 +118,7 @@ opened-right {q} {st} sound inv = record {
 
 -- a node opened from a side carries its exact distance and keeps the bound: before every turn, and at the end
 pub demand-3-opened : {q : Query} → Sound q → q .start ≢ q .end → (i : ℕ) → Demand3Opened q (afterTurns q i)
-demand-3-opened sound d i = opened-right sound (invariant sound d i)
+demand-3-opened sound d i = rw (same-search sound d i) (opened-right sound (invariant sound d i))
 
 pub demand-3-opened-end : {q : Query} → Sound q → Demand3Opened q (endState q)
 demand-3-opened-end {q} sound =
@@ -124,7 +126,7 @@ demand-3-opened-end {q} sound =
     (λ t. let e = eqb-true (q .start) (q .end) t in
     let none : (s : Side) (v : ℕ) → stateOf (atOnce q) v ≡ openedBy s → ⊥ = λ s v o. omega (arith, begun-undecided (at-once-begun q) v, opened-some s) in
     rw (end-state-at-once sound e) (record { reached = λ s v o. absurd (none s v o); nearest = λ s v o. absurd (none s v o); bound = λ s v o. absurd (none s v o) }))
-    (λ t. let d = eqb-false (q .start) (q .end) t in rw (end-state-ends sound d) (demand-3-opened sound d (ends sound .turns)))
+    (λ t. let d = eqb-false (q .start) (q .end) t in rw (end-state-ends sound d) (opened-right sound (invariant sound d (ends sound .turns))))
 
 -- the bound against the length answered
 pub demand-3-bound : {q : Query} → Sound q → Demand3Bound q
@@ -153,7 +155,7 @@ demand-3-same {q} p sound sound′ =
 -- ---- with no best length, nothing is rejected
 -- whatever labels, potentials and floor are: no number stands for a missing best length in the tests of step 4
 pub without-best-none-rejected : (q : Query) (s : Side) (st : State) (u : ℕ) → present (st .best) ≡ false → rejected q s st u ≡ false
-unfolding rejected rejects
+unfolding rejected
 without-best-none-rejected q s st u h = rw h
 
 -- ---- entries, figures and path
@@ -182,29 +184,29 @@ entries-fit {q} {st} sound o = record {
 }
 
 -- labels stay below the missing mark, and every entry fits: before every turn, and at the end
-pub below-the-mark : {q : Query} → Sound q → (i : ℕ) → BelowTheMark q (afterTurns q i)
-below-the-mark sound i = labels-below sound (orderly sound i)
+pub below-the-mark : {q : Query} → Sound q → q .start ≢ q .end → (i : ℕ) → BelowTheMark q (afterTurns q i)
+below-the-mark sound d i = rw (same-search sound d i) (labels-below sound (orderly sound i))
 
 pub below-the-mark-end : {q : Query} → Sound q → BelowTheMark q (endState q)
 below-the-mark-end sound = labels-below sound (at-end sound .orderly)
 
-pub entries : {q : Query} → Sound q → (i : ℕ) → EntriesFit q (afterTurns q i)
-entries sound i = entries-fit sound (orderly sound i)
+pub entries-small : {q : Query} → Sound q → q .start ≢ q .end → (i : ℕ) → EntriesFit q (afterTurns q i)
+entries-small sound d i = rw (same-search sound d i) (entries-fit sound (orderly sound i))
 
-pub entries-end : {q : Query} → Sound q → EntriesFit q (endState q)
-entries-end sound = entries-fit sound (at-end sound .orderly)
+pub entries-small-end : {q : Query} → Sound q → EntriesFit q (endState q)
+entries-small-end sound = entries-fit sound (at-end sound .orderly)
 
-figures-fit : {q : Query} {st : State} → Sound q → Orderly q st → FiguresFit q (figuresAt st)
-unfolding figuresAt
+figures-fit : {q : Query} {st : State} → Sound q → Orderly q st → FiguresFit q (figuresIn (st .states))
+unfolding figuresIn
 figures-fit {q} {st} sound o = record {
   adds-up = count-left (st .states) (o .few);
   few-turns = omega (arith, turns-figure sound st (o .tabled .states-long));
 }
 
-pub figures : {q : Query} → Sound q → (i : ℕ) → FiguresFit q (figuresAt (afterTurns q i))
-figures sound i = figures-fit sound (orderly sound i)
+pub figures : {q : Query} → Sound q → q .start ≢ q .end → (i : ℕ) → FiguresFit q (figuresIn (afterTurns q i .states))
+figures sound d i = rw (same-search sound d i) (figures-fit sound (orderly sound i))
 
-pub figures-end : {q : Query} → Sound q → FiguresFit q (figuresAt (endState q))
+pub figures-end : {q : Query} → Sound q → FiguresFit q (figuresIn (endState q .states))
 figures-end sound = figures-fit sound (at-end sound .orderly)
 
 every-at : {P : ℕ → Type 0} {l : List ℕ} → Every P l → (i : ℕ) → i < length l → P (getD l i 0)

@@ -17,33 +17,33 @@ use Rattle.network.specs.Query.{Query}
 use Rattle.network.specs.Refusal.{queryVerdict}
 use Rattle.nba.specs.State.{missing}
 use Rattle.nba.specs.Search.{endState}
-use Rattle.nba.specs.Result.{pathOf, figuresAt, answerAt, found}
+use Rattle.nba.specs.Result.{pathThrough, pathOf, figuresIn, answerAt, found}
 use Rattle.nba.specs.CodeLaws.{end-state-tabled}
 use Rattle.nba.specs.Theorems.{path-fits}
 use Rattle.turn.specs.declared.Best.{Best}
 use Rattle.search.specs.DemandLaws.{refused-left, accepted-left, query-kept}
 use Rattle.search.specs.Demands.{QueryKept}
 use Rattle.search.specs.Promise.{LentLists, lentLists, lengths, shownPath, listsAfter, left, searchLeaves}
-use Rattle.search.specs.Run.{Filled, Long, Tables, tables, tablesOf}
-use Rattle.search.specs.Tables.{figuresIn, pathThrough, atFront, PathRoom}
-use Rattle.search.specs.TablesLaws.{figuresAt-is, pathOf-is, nodes-by-entry}
+use Rattle.search.specs.Run.{Filled, Long, Outcome, outcome, outcomeOf}
+use Rattle.search.specs.Tables.{atFront, PathRoom}
+use Rattle.search.specs.TablesLaws.{nodes-by-entry}
 
-module _ {q : Query} (sound : Sound q) {sl sn el en states : List ℕ} {best : Best} (t : tables sl sn el en states best ≡ tablesOf (endState q)) where
+module _ {q : Query} (sound : Sound q) {sl sn el en states : List ℕ} {best : Best} (t : outcome sl sn el en states best ≡ outcomeOf (endState q)) where
   -- the lists are the tables of the state at the end
   pub filled-at-end : Filled (endState q) sl sn el en states
   filled-at-end = record {
-    start-labels = ap (λ (x : Tables). x .start-labels) t;
-    start-neighbours = ap (λ (x : Tables). x .start-neighbours) t;
-    end-labels = ap (λ (x : Tables). x .end-labels) t;
-    end-neighbours = ap (λ (x : Tables). x .end-neighbours) t;
-    states = ap (λ (x : Tables). x .states) t;
+    start-labels = ap (λ (x : Outcome). x .start-labels) t;
+    start-neighbours = ap (λ (x : Outcome). x .start-neighbours) t;
+    end-labels = ap (λ (x : Outcome). x .end-labels) t;
+    end-neighbours = ap (λ (x : Outcome). x .end-neighbours) t;
+    states = ap (λ (x : Outcome). x .states) t;
   }
 
   best-is : best .length ≡ endState q .best
-  best-is = ap (λ (x : Tables). x .best) t
+  best-is = ap (λ (x : Outcome). x .best) t
 
   meeting-is : best .node ≡ endState q .meeting
-  meeting-is = ap (λ (x : Tables). x .meeting) t
+  meeting-is = ap (λ (x : Outcome). x .meeting) t
 
   -- the states are one a node
   pub states-long : length states ≡ q .network .nodes
@@ -51,13 +51,12 @@ module _ {q : Query} (sound : Sound q) {sl sn el en states : List ℕ} {best : B
 
   -- the path read off the lists
   path-are : pathThrough sn en (q .start) (q .end) (best .node) ≡ pathOf q (endState q)
-  path-are =
-      rw (filled-at-end .start-neighbours, filled-at-end .end-neighbours, meeting-is)
-      (sym (pathOf-is q (endState q) (end-state-tabled q .neighbours-long start) (end-state-tabled q .neighbours-long end)))
+  unfolding pathOf
+  path-are = rw (filled-at-end .start-neighbours, filled-at-end .end-neighbours, meeting-is)
 
   module _ {f : Figures} (counted : f ≡ figuresIn states) where
-    figures-are : f ≡ figuresAt (endState q)
-    figures-are = counted ∙ ap figuresIn (filled-at-end .states) ∙ sym (figuresAt-is (endState q))
+    figures-are : f ≡ figuresIn (endState q .states)
+    figures-are = counted ∙ ap figuresIn (filled-at-end .states)
 
     -- a missing best length is "no route", and the path list keeps its entries
     pub answers-none : missing ≤ best .length → NoRoute f ≡ found q

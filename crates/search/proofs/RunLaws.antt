@@ -16,18 +16,20 @@ use Rattle.network.specs.Network.{Side, start, end, other, Network, network, ar
 use Rattle.network.specs.Potential.{potentialAt}
 use Rattle.network.specs.Query.{Query, potentials, source, sideOfTurn}
 use Rattle.nba.specs.State.{missing, noNode, State, half, undecided, openedBy}
-use Rattle.nba.specs.Search.{Candidate as Chosen, none, node, isNone, leastBelow, candidate, rejected, arcsBelow, arcsOf, Reach, lookAt, lookAtEach, floorAfter, halfAfter, afterReach, reachOf, rejecting, opening, takes, turn, ended, turnUnlessEnded, afterTurns, beginning, beginningHalf, atOnce, endState}
+use Rattle.nba.specs.Search.{Chosen, none, node, isNone, leastBelow, candidate, rejected, arcsBelow, arcsOf, Reach, floorAfter, halfAfter, afterReach, reachOf, rejecting, ended, atBeginning, beginningHalf, atOnce, endState}
+use Rattle.nba.specs.ByMark.{lookByMark, lookEachByMark, openingByMark, takesByMark, turnByMark, afterTurnsByMark}
 use Rattle.network.specs.Shift.{mag-add}
 use Rattle.network.specs.SoundLaws.{range-fine}
 use Rattle.nba.specs.StateLaws.{both-sides, half-own, half-theirs}
 use Rattle.nba.specs.LeastLaws.{LeastAt, Choice, no-node, least-node, choice-is}
 use Rattle.nba.specs.MeasureLaws.{shiftable}
 use Rattle.nba.specs.CodeLaws.{goes-on, stays-ended}
+use Rattle.nba.specs.ByMarkLaws.{same-end}
 use Rattle.nba.specs.EndLaws.{going-few}
 use Rattle.turn.specs.declared.Candidate.the-variants.{Nothing, Node}
 use Rattle.turn.specs.declared.Progress.{Progress}
-use Rattle.turn.specs.Turn.{meant, Took, took, taken, bestOf, Ahead, Openable, Passed}
-use Rattle.search.specs.Run.{standingOf, Known, Long, Floors, swappedOf, turnOf, Foreseen, Taking, Begun, Underway, lastState, Tables, tables, tablesOf}
+use Rattle.turn.specs.Turn.{meant, Took, took, rejects, nodeTaken, bestOf, Ahead, Openable, Passed}
+use Rattle.search.specs.Run.{standingOf, KnowsNext, Long, Floors, swappedOf, turnOf, Foreseen, Taking, Begun, TurnsMade, lastState, Outcome, outcome, outcomeOf}
 
 -- the network with its arcs turned the way of a side
 abbrev pub sideways : Side → Network → Network
@@ -35,11 +37,11 @@ sideways start g = g
 sideways end g = network (g .nodes) (g .heads) (g .tails) (g .weights)
 
 look-sideways : (s : Side) (g : Network) (theirs states : List ℕ) (u : ℕ) (arcs : List ℕ) (r : Reach)
-    → lookAtEach start (sideways s g) theirs states u arcs r ≡ lookAtEach s g theirs states u arcs r
-unfolding lookAtEach lookAt
+    → lookEachByMark start (sideways s g) theirs states u arcs r ≡ lookEachByMark s g theirs states u arcs r
+unfolding lookEachByMark lookByMark
 look-sideways start g theirs states u arcs r = refl
 look-sideways end g theirs states u [] r = refl
-look-sideways end g theirs states u (a ∷ arcs) r = look-sideways end g theirs states u arcs (lookAt end g theirs states u a r)
+look-sideways end g theirs states u (a ∷ arcs) r = look-sideways end g theirs states u arcs (lookByMark end g theirs states u a r)
 
 arcs-sideways : (s : Side) (g : Network) (u a : ℕ) → length (g .heads) ≡ arcCount g → arcsBelow start (sideways s g) u a ≡ arcsBelow s g u a
 unfolding arcsBelow isArc
@@ -59,7 +61,7 @@ tookOf s st = record { reached = reachOf s st; states = st .states }
 -- side s takes node u, on its own lists
 abbrev pub takenBy : Query → Side → State → ℕ → Took
 takenBy q s st u =
-    taken (sideways s (q .network)) (potentials s q) (potentials (other s) q) (half (other s) st .labels) u (source (other s) q)
+    nodeTaken (sideways s (q .network)) (potentials s q) (potentials (other s) q) (half (other s) st .labels) u (source (other s) q)
     (half (other s) st .floor) (openedBy s) (tookOf s st)
 
 abbrev pub afterTook : Query → Side → State → Took → State
@@ -72,8 +74,8 @@ rejected-mark end = refl
 
 -- a turn of `nba` is a node taken on the side's own lists
 turn-is-taken : (q : Query) (s : Side) (st : State) (u : ℕ) (k : ℤ) → length (q .network .heads) ≡ arcCount (q .network) → candidate q s st ≡ node u k
-    → turn q s st ≡ afterTook q s st (takenBy q s st u)
-unfolding turn taken rejected rejecting opening
+    → turnByMark q s st ≡ afterTook q s st (takenBy q s st u)
+unfolding turnByMark nodeTaken rejected rejects rejecting openingByMark
 turn-is-taken q s st u k e c =
     rw (c, rejected-mark s, arcs-of-sideways s (q .network) u e, look-sideways s (q .network))
     (twice (λ a b. a ≡ afterTook q s st b) (rejected q s st u) (λ h. refl) (λ h. refl))
@@ -82,7 +84,7 @@ turn-is-taken q s st u k e c =
 module _ (q : Query) (labels neighbours theirs beyond states labels′ neighbours′ states′ : List ℕ) (p r : Progress) (u : ℕ) where
   taken-here : (s : Side)
       → takenBy q s (standingOf s labels neighbours theirs beyond states p) u
-      ≡ taken (sideways s (q .network)) (potentials s q) (potentials (other s) q) theirs u (source (other s) q) (p .beyond) (openedBy s) (took labels neighbours states (bestOf p))
+      ≡ nodeTaken (sideways s (q .network)) (potentials s q) (potentials (other s) q) theirs u (source (other s) q) (p .beyond) (openedBy s) (took labels neighbours states (bestOf p))
   taken-here start = refl
   taken-here end = refl
 
@@ -103,14 +105,14 @@ module _ (q : Query) (labels neighbours theirs beyond states labels′ neighbour
   other-candidate end = refl
 
 pub record AfterTurn (q : Query) (s : Side) (before after : State) (r : Progress) : Type 0 where
-  pub turned : after ≡ turn q s before
-  pub known : Known q s after r
+  pub turned : after ≡ turnByMark q s before
+  pub known : KnowsNext q s after r
 
 pub side-turn-is : (q : Query) (s : Side) (labels neighbours theirs beyond states labels′ neighbours′ states′ : List ℕ) (p r : Progress) (u : ℕ) (k : ℤ)
     → length (q .network .heads) ≡ arcCount (q .network)
     → length states′ ≡ q .network .nodes
     → candidate q s (standingOf s labels neighbours theirs beyond states p) ≡ node u k
-    → took labels′ neighbours′ states′ (bestOf r) ≡ taken (sideways s (q .network)) (potentials s q) (potentials (other s) q) theirs u (source (other s) q) (p .beyond) (openedBy s) (took labels neighbours states (bestOf p))
+    → took labels′ neighbours′ states′ (bestOf r) ≡ nodeTaken (sideways s (q .network)) (potentials s q) (potentials (other s) q) theirs u (source (other s) q) (p .beyond) (openedBy s) (took labels neighbours states (bestOf p))
     → Ahead labels′ (potentials s q) theirs (potentials (other s) q) states′ p r
     → AfterTurn q s (standingOf s labels neighbours theirs beyond states p) (standingOf s labels′ neighbours′ theirs beyond states′ r) r
 side-turn-is q s labels neighbours theirs beyond states labels′ neighbours′ states′ p r u k e long c t a =
@@ -185,7 +187,7 @@ pub turn-named : {q : Query} {s : Side} {before after : State} {r : Progress} (i
 turn-named i e a = rw e (a .turned)
 
 -- what the end side knows, the start side knows turned round
-pub known-swapped : {q : Query} {st : State} {r : Progress} → Known q end st r → Known q start st (swappedOf r)
+pub known-swapped : {q : Query} {st : State} {r : Progress} → KnowsNext q end st r → KnowsNext q start st (swappedOf r)
 known-swapped k = record { mine = k .yours; yours = k .mine }
 
 -- the lists seen from the other side
@@ -223,15 +225,15 @@ module _ {q : Query} (sound : Sound q) where
         (rw half-theirs (h .small (other s)));
   }
 
-  takes-small : (s : Side) (c : Chosen) (st : State) → SmallFloors st → SmallFloors (takes q s c st)
-  unfolding rejecting opening
+  takes-small : (s : Side) (c : Chosen) (st : State) → SmallFloors st → SmallFloors (takesByMark q s c st)
+  unfolding rejecting openingByMark
   takes-small s none st h = h
   takes-small s (node u k) st h = cases SmallFloors (rejected q s st u) (λ t. after-reach-small s st _ _ h) (λ t. after-reach-small s st _ _ h)
 
-  pub floors-small : (i : ℕ) → SmallFloors (afterTurns q i)
-  unfolding afterTurns turnUnlessEnded turn beginning beginningHalf
-  floors-small zero = record { small = both-sides (λ t. mag (half t (beginning q) .floor) < 2 ^ 40) start (omega (arith, range-fine _ (sound .in-range start (q .start)))) (omega (arith, range-fine _ (sound .in-range end (q .end)))) }
-  floors-small (suc i) = cases SmallFloors (ended q (afterTurns q i)) (λ h. floors-small i) (λ h. takes-small (sideOfTurn (q .pattern) i) (candidate q (sideOfTurn (q .pattern) i) (afterTurns q i)) (afterTurns q i) (floors-small i))
+  pub floors-small : (i : ℕ) → SmallFloors (afterTurnsByMark q i)
+  unfolding afterTurnsByMark turnByMark atBeginning beginningHalf
+  floors-small zero = record { small = both-sides (λ t. mag (half t (atBeginning q) .floor) < 2 ^ 40) start (omega (arith, range-fine _ (sound .in-range start (q .start)))) (omega (arith, range-fine _ (sound .in-range end (q .end)))) }
+  floors-small (suc i) = cases SmallFloors (ended q (afterTurnsByMark q i)) (λ h. floors-small i) (λ h. takes-small (sideOfTurn (q .pattern) i) (candidate q (sideOfTurn (q .pattern) i) (afterTurnsByMark q i)) (afterTurnsByMark q i) (floors-small i))
 
 -- ---- the beginning
 pub begun : {n : ℕ} {forward backward : List ℤ} {s e : ℕ} (sl sn el en states : List ℕ) (p : Progress)
@@ -239,7 +241,7 @@ pub begun : {n : ℕ} {forward backward : List ℤ} {s e : ℕ} (sl sn el en sta
     → p .length ≡ missing → p .meeting ≡ noNode → p .floor ≡ potentialAt forward s → p .beyond ≡ potentialAt backward e
     → meant (p .own) ≡ leastBelow sl states forward (length states) → meant (p .other) ≡ leastBelow el states backward (length states)
     → Begun n forward backward s e (standingOf start sl sn el en states p) p
-unfolding beginning beginningHalf candidate
+unfolding atBeginning beginningHalf candidate
 begun {n} {forward} {backward} sl sn el en states p a b c d f g h i j k l =
     let z : length states ≡ n = ap length f ∙ length-replicate n undecided in
     record {
@@ -251,7 +253,7 @@ begun {n} {forward} {backward} sl sn el en states p a b c d f g h i j k l =
     }
 
 -- ---- a search under way
-module _ {q : Query} (sound : Sound q) {i : ℕ} {st : State} {p : Progress} (way : Underway q i st p) where
+module _ {q : Query} (sound : Sound q) {i : ℕ} {st : State} {p : Progress} (way : TurnsMade q i st p) where
   -- the two floors of the progress are those of the state
   pub floors-of : p .floor ≡ half start st .floor → p .beyond ≡ half end st .floor → Floors p
   floors-of e f = record {
@@ -270,7 +272,7 @@ module _ {q : Query} (sound : Sound q) {i : ℕ} {st : State} {p : Progress} (wa
     pub both-take : p .floor ≡ half start st .floor → p .beyond ≡ half end st .floor → Taking q st a b p
     both-take e f = record { start-key = k; start-takes = start-takes-is; end-key = j; end-takes = end-takes-is; floors = floors-of e f }
 
-    going : ended q (afterTurns q i) ≡ false
+    going : ended q (afterTurnsByMark q i) ≡ false
     unfolding ended
     going = rw (sym (way .here)) (rw (start-takes-is, end-takes-is) refl)
 
@@ -279,18 +281,18 @@ module _ {q : Query} (sound : Sound q) {i : ℕ} {st : State} {p : Progress} (wa
     turns-left = going-few sound i going
 
     -- and the state after the next one is the next
-    pub underway-next : {after : State} {r : Progress} → after ≡ turnOf q i st → Foreseen q after r → Underway q (i + 1) after r
+    pub underway-next : {after : State} {r : Progress} → after ≡ turnOf q i st → Foreseen q after r → TurnsMade q (i + 1) after r
     underway-next t f = record { here = t ∙ rw (way .here) (sym (rw (add-one i) (goes-on q i going))); foreseen = f }
 
   -- a side has none: the search has ended, and this is its last state
-  over : ended q st ≡ true → i ≤ q .network .nodes → tablesOf st ≡ tablesOf (lastState q)
-  over e h = ap tablesOf (way .here ∙ sym (stays-ended q i (q .network .nodes) (ap (ended q) (sym (way .here)) ∙ e) h))
+  over : ended q st ≡ true → i ≤ q .network .nodes → outcomeOf st ≡ outcomeOf (lastState q)
+  over e h = ap outcomeOf (way .here ∙ sym (stays-ended q i (q .network .nodes) (ap (ended q) (sym (way .here)) ∙ e) h))
 
-  pub over-at-start : p .own ≡ Nothing → i ≤ q .network .nodes → tablesOf st ≡ tablesOf (lastState q)
+  pub over-at-start : p .own ≡ Nothing → i ≤ q .network .nodes → outcomeOf st ≡ outcomeOf (lastState q)
   unfolding ended
   over-at-start e = over (rw (sym (way .foreseen .mine) ∙ ap meant e) refl)
 
-  pub over-at-end : p .other ≡ Nothing → i ≤ q .network .nodes → tablesOf st ≡ tablesOf (lastState q)
+  pub over-at-end : p .other ≡ Nothing → i ≤ q .network .nodes → outcomeOf st ≡ outcomeOf (lastState q)
   unfolding ended
   over-at-end e = over (rw (sym (way .foreseen .yours) ∙ ap meant e) (either (isNone (candidate q start st))))
     where
@@ -314,21 +316,20 @@ kept-long l a b c d e = record {
 module _ {q : Query} (sound : Sound q) {sl sn el en states : List ℕ} {p : Progress}
     (b : Begun (q .network .nodes) (q .forward) (q .backward) (q .start) (q .end) (standingOf start sl sn el en states p) p) where
   -- a search that has begun is under way, with no turn made
-  pub begun-underway : Underway q 0 (standingOf start sl sn el en states p) p
-  unfolding afterTurns
+  pub begun-underway : TurnsMade q 0 (standingOf start sl sn el en states p) p
+  unfolding afterTurnsByMark
   begun-underway = record { here = b .at-first (q .network) (q .pattern) refl; foreseen = b .foreseen (q .network) (q .pattern) refl }
 
   -- start equal to end: it has ended at once
-  pub ended-at-once : {s : ℕ} → s ≡ q .start → q .start ≡ q .end → tables sl sn el en states (record { length = 0; node = s }) ≡ tablesOf (endState q)
-  unfolding endState atOnce beginning
+  pub ended-at-once : {s : ℕ} → s ≡ q .start → q .start ≡ q .end → outcome sl sn el en states (record { length = 0; node = s }) ≡ outcomeOf (endState q)
+  unfolding endState atOnce atBeginning
   ended-at-once e h =
-      let f : standingOf start sl sn el en states p ≡ beginning q = b .at-first (q .network) (q .pattern) refl in
-      rw (eq-eqb _ _ h, e) (ap (λ (t : Tables). record { start-labels = t .start-labels; start-neighbours = t .start-neighbours; end-labels = t .end-labels; end-neighbours = t .end-neighbours; states = t .states; best = 0; meeting = q .start }) (ap tablesOf f))
+      let f : standingOf start sl sn el en states p ≡ atBeginning q = b .at-first (q .network) (q .pattern) refl in
+      rw (eq-eqb _ _ h, e) (ap (λ (t : Outcome). record { start-labels = t .start-labels; start-neighbours = t .start-neighbours; end-labels = t .end-labels; end-neighbours = t .end-neighbours; states = t .states; best = 0; meeting = q .start }) (ap outcomeOf f))
 
 -- start and end different: it ends with its last state
-pub ended-last : (q : Query) {t : Tables} → (q .start ≡ q .end → ⊥) → t ≡ tablesOf (lastState q) → t ≡ tablesOf (endState q)
-unfolding endState
-ended-last q h e = rw (ne-eqb _ _ h) e
+ended-last : {q : Query} {t : Outcome} → Sound q → (q .start ≡ q .end → ⊥) → t ≡ outcomeOf (lastState q) → t ≡ outcomeOf (endState q)
+ended-last sound h e = rw (same-end sound h) e
 
 -- ---- the loop of turns
 -- before a turn: i turns were made, and the lists stand for the state after them
@@ -336,7 +337,7 @@ pub record Going (q : Query) (i : ℕ) (sl sn el en states : List ℕ) (p : Prog
   pub few : i ≤ q .network .nodes
   pub sound : Sound q
   pub long : Long (q .network .nodes) sl sn el en states
-  pub way : Underway q i (standingOf start sl sn el en states p) p
+  pub way : TurnsMade q i (standingOf start sl sn el en states p) p
 
 module _ {q : Query} {i : ℕ} {sl sn el en states : List ℕ} {p : Progress} (g : Going q i sl sn el en states p) where
   -- both sides take a node: after the turn one turn more was made
@@ -353,8 +354,8 @@ module _ {q : Query} {i : ℕ} {sl sn el en states : List ℕ} {p : Progress} (g
       })
 
   -- a side has none: the search has ended
-  pub over-own : (q′ : Query) → q ≡ q′ → (q′ .start ≡ q′ .end → ⊥) → p .own ≡ Nothing → tablesOf (standingOf start sl sn el en states p) ≡ tablesOf (endState q′)
-  over-own q′ e h own = ended-last q′ h (rw e at (over-at-start (g .sound) (g .way) own (g .few)))
+  pub over-own : (q′ : Query) → q ≡ q′ → (q′ .start ≡ q′ .end → ⊥) → p .own ≡ Nothing → outcomeOf (standingOf start sl sn el en states p) ≡ outcomeOf (endState q′)
+  over-own q′ e h own = ended-last (rw e at (g .sound)) h (rw e at (over-at-start (g .sound) (g .way) own (g .few)))
 
-  pub over-other : (q′ : Query) → q ≡ q′ → (q′ .start ≡ q′ .end → ⊥) → p .other ≡ Nothing → tablesOf (standingOf start sl sn el en states p) ≡ tablesOf (endState q′)
-  over-other q′ e h beyond = ended-last q′ h (rw e at (over-at-end (g .sound) (g .way) beyond (g .few)))
+  pub over-other : (q′ : Query) → q ≡ q′ → (q′ .start ≡ q′ .end → ⊥) → p .other ≡ Nothing → outcomeOf (standingOf start sl sn el en states p) ≡ outcomeOf (endState q′)
+  over-other q′ e h beyond = ended-last (rw e at (g .sound)) h (rw e at (over-at-end (g .sound) (g .way) beyond (g .few)))

@@ -24,7 +24,7 @@ use Rattle.network.specs.Query.{Query}
 use Rattle.network.specs.Refusal.{badPattern, queryVerdict}
 use Rattle.nba.specs.State.{missing, present, labelOf, stateOf}
 use Rattle.nba.specs.Search.{endState}
-use Rattle.nba.specs.Result.{figuresAt, answerAt, found, answered, answerTo}
+use Rattle.nba.specs.Result.{figuresIn, answerAt, found, refusedOr, answerTo}
 use Rattle.nba.specs.Demands.{Joined, alone, next, path, withPattern, SameLengthAndVerdict}
 use Rattle.nba.specs.CodeLaws.{end-state-tabled}
 use Rattle.nba.specs.Theorems.{demand-2, demand-3-turns, demand-3-opened-end, demand-3-bound, demand-3-same, path-fits}
@@ -59,7 +59,7 @@ pub query-answers : (q : Query) (l : LentLists) → queried q l .answer ≡ answ
 unfolding queried answerTo
 query-answers q l = by (queryVerdict q (lengths l))
   where
-    by : (v : Verdict) → verdictLeaves v q l .answer ≡ answered v (found q)
+    by : (v : Verdict) → verdictLeaves v q l .answer ≡ refusedOr v (found q)
     by Accepted = refl
     by (Refusal c) = refl
 
@@ -104,16 +104,16 @@ route-shown : (q : Query) {l n : ℕ} {f : Figures} → found q ≡ Route l n f 
 unfolding found answerAt shownPath
 route-shown q {l} {n} {f} = by (present (endState q .best))
   where
-    by : (b : Bool) → cond b (Route (endState q .best) (length (path q)) (figuresAt (endState q))) (NoRoute (figuresAt (endState q))) ≡ Route l n f → cond b (path q) [] ≡ path q
+    by : (b : Bool) → cond b (Route (endState q .best) (length (path q)) (figuresIn (endState q .states))) (NoRoute (figuresIn (endState q .states))) ≡ Route l n f → cond b (path q) [] ≡ path q
     by true e = refl
     by false e = let z : _≡_ {A = ℕ} 0 1 = cc in absurd (omega arith)
 
 -- the figures of the search's answer are those of its state at the end
-figures-found : (q : Query) {f : Figures} → HasFigures (found q) f → f ≡ figuresAt (endState q)
+figures-found : (q : Query) {f : Figures} → HasFigures (found q) f → f ≡ figuresIn (endState q .states)
 unfolding found answerAt
 figures-found q = by (present (endState q .best))
   where
-    by : (b : Bool) {f : Figures} → HasFigures (cond b (Route (endState q .best) (length (path q)) (figuresAt (endState q))) (NoRoute (figuresAt (endState q)))) f → f ≡ figuresAt (endState q)
+    by : (b : Bool) {f : Figures} → HasFigures (cond b (Route (endState q .best) (length (path q)) (figuresIn (endState q .states))) (NoRoute (figuresIn (endState q .states)))) f → f ≡ figuresIn (endState q .states)
     by true of-a-route = refl
     by false of-no-route = refl
 

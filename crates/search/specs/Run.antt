@@ -1,5 +1,5 @@
 -- The turns of a search, one after the other, as the code sees them: the lent lists and the progress stand for a state of
--- the search that `nba` defines. Assumes nothing.
+-- the search by marks, which `nba` proves to be the search. Assumes nothing.
 use mathlib.Core.Path.{_≡_}
 use mathlib.Core.List.{List}
 use Prim.Native.Nat.{ℕ, _<_, _≤_, _^_}
@@ -9,7 +9,8 @@ use lib.Signed.{mag}
 use Rattle.network.specs.Network.{Side, start, end, other, Network, mostNodes}
 use Rattle.network.specs.Query.{Query, query, sideOfTurn}
 use Rattle.nba.specs.State.{State, state}
-use Rattle.nba.specs.Search.{node, candidate, turn, beginning, afterTurns}
+use Rattle.nba.specs.Search.{node, candidate, atBeginning}
+use Rattle.nba.specs.ByMark.{turnByMark, afterTurnsByMark}
 use Rattle.turn.specs.declared.Best.{Best}
 use Rattle.turn.specs.declared.Progress.{Progress}
 use Rattle.turn.specs.Turn.{meant}
@@ -25,7 +26,7 @@ abbrev pub standing : List ℕ → List ℕ → List ℕ → List ℕ → List �
 standing = standingOf start
 
 -- the progress, seen from side s, knows what each side takes next
-pub record Known (q : Query) (s : Side) (st : State) (p : Progress) : Type 0 where
+pub record KnowsNext (q : Query) (s : Side) (st : State) (p : Progress) : Type 0 where
   pub mine : meant (p .own) ≡ candidate q s st
   pub yours : meant (p .other) ≡ candidate q (other s) st
 
@@ -48,11 +49,11 @@ swappedOf p = record { length = p .length; meeting = p .meeting; floor = p .beyo
 
 -- turn number i, of the side that the repeated pattern names
 abbrev pub turnOf : Query → ℕ → State → State
-turnOf q i st = turn q (sideOfTurn (q .pattern) i) st
+turnOf q i st = turnByMark q (sideOfTurn (q .pattern) i) st
 
 -- the progress of a search knows what each side takes next
 abbrev pub Foreseen : Query → State → Progress → Type 0
-Foreseen q st p = Known q start st p
+Foreseen q st p = KnowsNext q start st p
 
 -- what a turn asks: both sides have a node to take, the start side a and the end side b
 pub record Taking (q : Query) (st : State) (a b : ℕ) (p : Progress) : Type 0 where
@@ -72,20 +73,20 @@ pub record Beginning (n : ℕ) (forward backward : List ℤ) (s e : ℕ) : Type 
 
 -- a search has begun: the state is that of step 1, whatever the arcs and the pattern, and the progress knows what is next
 pub record Begun (n : ℕ) (forward backward : List ℤ) (s e : ℕ) (st : State) (p : Progress) : Type 0 where
-  pub at-first : (g : Network) (pattern : List ℕ) → g .nodes ≡ n → st ≡ beginning (query g forward backward s e pattern)
+  pub at-first : (g : Network) (pattern : List ℕ) → g .nodes ≡ n → st ≡ atBeginning (query g forward backward s e pattern)
   pub foreseen : (g : Network) (pattern : List ℕ) → g .nodes ≡ n → Foreseen (query g forward backward s e pattern) st p
 
 -- a search is under way: it is in its state after i turns, and the progress knows what is next
-pub record Underway (q : Query) (i : ℕ) (st : State) (p : Progress) : Type 0 where
-  pub here : st ≡ afterTurns q i
+pub record TurnsMade (q : Query) (i : ℕ) (st : State) (p : Progress) : Type 0 where
+  pub here : st ≡ afterTurnsByMark q i
   pub foreseen : Foreseen q st p
 
 -- the state after as many turns as there are nodes
 abbrev pub lastState : Query → State
-lastState q = afterTurns q (q .network .nodes)
+lastState q = afterTurnsByMark q (q .network .nodes)
 
--- the tables of a state, its best length and its meeting node: all of it but the floors
-pub record Tables : Type 0 where
+-- the outcome of a search: its tables, its best length and its meeting node, all of a state but the floors
+pub record Outcome : Type 0 where
   pub start-labels : List ℕ
   pub start-neighbours : List ℕ
   pub end-labels : List ℕ
@@ -94,8 +95,8 @@ pub record Tables : Type 0 where
   pub best : ℕ
   pub meeting : ℕ
 
-abbrev pub tables : List ℕ → List ℕ → List ℕ → List ℕ → List ℕ → Best → Tables
-tables sl sn el en states best = record {
+abbrev pub outcome : List ℕ → List ℕ → List ℕ → List ℕ → List ℕ → Best → Outcome
+outcome sl sn el en states best = record {
   start-labels = sl;
   start-neighbours = sn;
   end-labels = el;
@@ -105,8 +106,8 @@ tables sl sn el en states best = record {
   meeting = best .node;
 }
 
-abbrev pub tablesOf : State → Tables
-tablesOf st = record {
+abbrev pub outcomeOf : State → Outcome
+outcomeOf st = record {
   start-labels = st .start-half .labels;
   start-neighbours = st .start-half .neighbours;
   end-labels = st .end-half .labels;

@@ -1,24 +1,14 @@
--- What is promised of a search's tables: the figures counted from the states, and the path written from the neighbours.
+-- What counting the figures and writing the path ask and leave: figures added up, nodes one after the other along neighbours,
+-- and entries put at the front of a list.
 -- Assumes nothing.
 use mathlib.Core.Path.{_≡_}
-use mathlib.Core.Bool.{not}
 use mathlib.Core.List.{List, [], _∷_, _++_}
 use Prim.Native.Nat.{ℕ, zero, suc, _+_, _≤_, _<_}
-use lib.Dec.{eqb}
 use lib.ListN.{length, getD, drop}
 use Rattle.network.specs.declared.Figures.{Figures}
-use Rattle.network.specs.Network.{start, end, mostNodes}
-use Rattle.nba.specs.State.{noNode, undecided, openedBy, rejectedBy}
-use Rattle.nba.specs.Result.{trail, turnedBefore, countOf}
-
--- the figures of a table of states: each is a count of states, and turns is the number of nodes that left
-unfoldable pub figuresIn : List ℕ → Figures
-figuresIn states = record {
-  turns = countOf (λ x. not (eqb undecided x)) states;
-  «opened_by_start» = countOf (eqb (openedBy start)) states;
-  «opened_by_end» = countOf (eqb (openedBy end)) states;
-  rejected = countOf (eqb (rejectedBy start)) states + countOf (eqb (rejectedBy end)) states;
-}
+use Rattle.network.specs.Network.{mostNodes}
+use Rattle.nba.specs.State.{noNode}
+use Rattle.nba.specs.Result.{pathThrough}
 
 -- the figures of two tables together: each is the sum of the two
 unfoldable pub together : Figures → Figures → Figures
@@ -45,11 +35,6 @@ onward neighbours (suc k) v = getD neighbours v noNode ∷ onward neighbours k (
 pub data NodesBelow (n : ℕ) : List ℕ → Type 0 where
   no-entries : NodesBelow n []
   one-node : {v : ℕ} {nodes : List ℕ} → v < n → NodesBelow n nodes → NodesBelow n (v ∷ nodes)
-
--- the path through the meeting node: back along start-side neighbours to the start, on along end-side neighbours to the end
-unfoldable pub pathThrough : List ℕ → List ℕ → ℕ → ℕ → ℕ → List ℕ
-pathThrough startward endward s e meeting =
-    turnedBefore (trail startward s (length startward) meeting) (meeting ∷ trail endward e (length endward) meeting)
 
 -- nodes from a list's first entry on; the entries beyond them keep their old values
 unfoldable pub atFront : List ℕ → List ℕ → List ℕ

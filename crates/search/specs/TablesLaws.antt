@@ -9,13 +9,13 @@ use native.Mathlib.Omega.{arith}
 use lib.Dec.{eqb}
 use lib.ListN.{length, getD, drop, set, replicate, length-append, length-drop}
 use lib.Seq.{drop-length, drop-cons, sets, sets-eq, take-append-seam, drop-append-add, drop-drop}
-use borrow.Author.Tests.{eq-eqb, ne-eqb}
+use borrow.Author.Tests.{ne-eqb}
 use Rattle.network.specs.declared.Figures.{Figures}
 use Rattle.network.specs.Network.{start, end, mostNodes}
-use Rattle.network.specs.Query.{Query}
-use Rattle.nba.specs.State.{State, noNode, undecided, openedBy, rejectedBy}
-use Rattle.nba.specs.Result.{trail, turnedBefore, trailOf, pathOf, countOf, figuresAt}
-use Rattle.search.specs.Tables.{figuresIn, together, Countable, onward, NodesBelow, no-entries, one-node, pathThrough, atFront, PathRoom}
+use Rattle.nba.specs.State.{noNode, undecided, openedBy, rejectedBy}
+use Rattle.nba.specs.Result.{trail, turnedBefore, pathThrough, countOf, figuresIn}
+use Rattle.nba.specs.TrailLaws.{length-turned-before}
+use Rattle.search.specs.Tables.{together, Countable, onward, NodesBelow, no-entries, one-node, atFront, PathRoom}
 
 -- ---- filling
 -- a list filled to its end is that value, as often as the list is long
@@ -23,11 +23,6 @@ pub filled-whole : (i v : ℕ) (l : List ℕ) → i ≡ length l → replicate i
 filled-whole i v l e = rw (e, drop-length, append-nil)
 
 -- ---- figures
--- the figures at the end of a search are those of its states
-pub figuresAt-is : (st : State) → figuresAt st ≡ figuresIn (st .states)
-unfolding figuresAt figuresIn
-figuresAt-is st = refl
-
 -- a count over a list is that of its first entry and that of the others
 count-cons : (test : ℕ → Bool) (x : ℕ) (rest : List ℕ) → countOf test (x ∷ rest) ≡ countOf test (x ∷ []) + countOf test rest
 unfolding countOf
@@ -98,12 +93,6 @@ drop-set-here [] i v h = absurd (not-suc-le-zero h)
 drop-set-here (x ∷ l) zero v h = refl
 drop-set-here (x ∷ l) (suc i) v h = drop-set-here l i v (le-of-suc-le-suc h)
 
--- the source has no node after it
-pub trail-home : (neighbours : List ℕ) (home n v : ℕ) → v ≡ home → trail neighbours home n v ≡ []
-unfolding trail
-trail-home neighbours home zero v e = refl
-trail-home neighbours home (suc n) v e = simp (eq-eqb v home e)
-
 module _ (neighbours : List ℕ) (v k j : ℕ) (within : v < length neighbours) (one-less : k ≡ suc j) where
   -- after any other node comes its neighbour, and what comes after that
   pub trail-next : (home : ℕ) → (v ≡ home → ⊥) → trail neighbours home k v ≡ getD neighbours v 0 ∷ trail neighbours home j (getD neighbours v 0)
@@ -158,11 +147,6 @@ unfolding turnedBefore
 turned-append [] b = refl
 turned-append (v ∷ a) b = rw (turned-append a (v ∷ b), turned-append a (v ∷ []), append-assoc)
 
-length-turned : (a b : List ℕ) → length (turnedBefore a b) ≡ length a + length b
-unfolding turnedBefore
-length-turned [] b = omega arith
-length-turned (v ∷ a) b = omega (arith, length-turned a (v ∷ b))
-
 module _ {n : ℕ} where
   -- of a list turned round before another, the other is of nodes, and so is the list
   back-below : (a b : List ℕ) → NodesBelow n (turnedBefore a b) → NodesBelow n b
@@ -189,16 +173,10 @@ front-turned : (a more old : List ℕ) → length a + length more ≤ length old
     → sets (turnedBefore a (drop (length a) old)) (length a) more ≡ atFront (turnedBefore a more) old
 unfolding atFront
 front-turned a more old h =
-    let same : length (turnedBefore a []) ≡ length a = omega (arith, length-turned a []) in
+    let same : length (turnedBefore a []) ≡ length a = omega (arith, length-turned-before a []) in
     let fits : length (turnedBefore a []) + length more ≤ length old = omega arith in
     let done = front-more (turnedBefore a []) more old fits in
     rw (turned-append a (drop (length a) old), turned-append a more) (rw same at done)
-
--- the path of a search's end state, whose neighbour lists have an entry for each node
-pub pathOf-is : (q : Query) (st : State) → length (st .start-half .neighbours) ≡ q .network .nodes → length (st .end-half .neighbours) ≡ q .network .nodes
-    → pathOf q st ≡ pathThrough (st .start-half .neighbours) (st .end-half .neighbours) (q .start) (q .end) (st .meeting)
-unfolding pathOf trailOf pathThrough
-pathOf-is q st a b = rw (a, b)
 
 module _ {path startward endward : List ℕ} {s e meeting : ℕ} (asked : PathRoom path startward endward s e meeting) where
   -- from the meeting node on, each side's trail is of nodes
@@ -216,11 +194,11 @@ module _ {path startward endward : List ℕ} {s e meeting : ℕ} (asked : PathRo
     -- the path is the two trails and the meeting node between them
     pub path-length : before + 1 + after ≡ length (pathThrough startward endward s e meeting)
     unfolding pathThrough
-    path-length = sym (length-turned _ _ ∙ omega arith)
+    path-length = sym (length-turned-before _ _ ∙ omega arith)
 
     -- it fits the path list, and its length a u16
-    pub path-fits : before + 1 + after ≤ length path
-    path-fits = omega (arith, path-length)
+    pub path-within : before + 1 + after ≤ length path
+    path-within = omega (arith, path-length)
 
     pub path-few : before + 1 + after ≤ mostNodes
     path-few = omega (arith, path-length)
@@ -233,7 +211,7 @@ module _ {path startward endward : List ℕ} {s e meeting : ℕ} (asked : PathRo
     path-written first last first-is last-is =
         let start-trail = trail startward s (length startward) meeting in
         let end-trail = trail endward e (length endward) meeting in
-        let fits : length start-trail + length (meeting ∷ end-trail) ≤ length path = omega (arith, path-fits) in
+        let fits : length start-trail + length (meeting ∷ end-trail) ≤ length path = omega (arith, path-within) in
         let done = front-turned start-trail (meeting ∷ end-trail) path fits in
         let start-is = trail-is startward s (length startward) meeting before-is in
         let end-is = trail-is endward e (length endward) meeting after-is in

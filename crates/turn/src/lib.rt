@@ -6,8 +6,9 @@ ghost use lib.IntN.{pos, _+ℤ_, _-ℤ_};
 ghost use lib.ListN.{length};
 ghost use lib.Signed.{leZ, ltZ, mag};
 ghost use Rattle.network.specs.Network.{start, network};
-ghost use Rattle.nba.specs.Search.{arcsOf, floorAfter, labelled, leastBelow, lookAtEach, rejects};
-ghost use Rattle.turn.specs.Turn.{Ahead, Openable, Passed, bestOf, considered, meant, reach, taken, took};
+ghost use Rattle.nba.specs.ByMark.{labelByMark, lookEachByMark};
+ghost use Rattle.nba.specs.Search.{arcsOf, floorAfter, leastBelow};
+ghost use Rattle.turn.specs.Turn.{Ahead, Openable, Passed, bestOf, considered, meant, nodeTaken, reach, rejects, took};
 
 // A missing label, and a missing best length.
 pub const MISSING: u32 = 4294967295;
@@ -136,7 +137,7 @@ fn label_node(
     best: Best,
 ) -> Best
     requires { ⌜ (v < length (now labels)) × (v < length (now neighbours)) × (v < length (now theirs)) ⌝ }
-    ensures { λ r. ⌜ reach (now (labels .exit)) (now (neighbours .exit)) r ≡ labelled (now (theirs .entry)) u v l (reach (now (labels .entry)) (now (neighbours .entry)) best) ⌝ }
+    ensures { λ r. ⌜ reach (now (labels .exit)) (now (neighbours .exit)) r ≡ labelByMark (now (theirs .entry)) u v l (reach (now (labels .entry)) (now (neighbours .entry)) best) ⌝ }
 {
     let i = v as usize;
     labels[i] = l;
@@ -166,7 +167,7 @@ fn open_node(
     so_far: Best,
 ) -> Best
     requires { ⌜ Openable (now near) (now far) (now weights) (now labels) (now neighbours) (now theirs) (now states) u ⌝ }
-    ensures { λ r. ⌜ reach (now (labels .exit)) (now (neighbours .exit)) r ≡ lookAtEach start (network (length (now (labels .entry))) (now (near .entry)) (now (far .entry)) (now (weights .entry))) (now (theirs .entry)) (now (states .entry)) u (arcsOf start (network (length (now (labels .entry))) (now (near .entry)) (now (far .entry)) (now (weights .entry))) u) (reach (now (labels .entry)) (now (neighbours .entry)) «so_far») ⌝ }
+    ensures { λ r. ⌜ reach (now (labels .exit)) (now (neighbours .exit)) r ≡ lookEachByMark start (network (length (now (labels .entry))) (now (near .entry)) (now (far .entry)) (now (weights .entry))) (now (theirs .entry)) (now (states .entry)) u (arcsOf start (network (length (now (labels .entry))) (now (near .entry)) (now (far .entry)) (now (weights .entry))) u) (reach (now (labels .entry)) (now (neighbours .entry)) «so_far») ⌝ }
 {
     let mut best = so_far;
     let from = u as usize;
@@ -208,7 +209,7 @@ fn take_node(
     requires { ⌜ Openable (now near) (now far) (now weights) (now labels) (now neighbours) (now theirs) (now states) u ⌝ }
     requires { ⌜ Passed (length (now states)) (now labels) (now own) (now theirs) (now other) ⌝ }
     requires { ⌜ (target < length (now own)) × (mag floor < 2 ^ 40) × (opened < 255) ⌝ }
-    ensures { λ r. ⌜ took (now (labels .exit)) (now (neighbours .exit)) (now (states .exit)) r ≡ taken (network (length (now (labels .entry))) (now (near .entry)) (now (far .entry)) (now (weights .entry))) (now (own .entry)) (now (other .entry)) (now (theirs .entry)) u target floor opened (took (now (labels .entry)) (now (neighbours .entry)) (now (states .entry)) best) ⌝ }
+    ensures { λ r. ⌜ took (now (labels .exit)) (now (neighbours .exit)) (now (states .exit)) r ≡ nodeTaken (network (length (now (labels .entry))) (now (near .entry)) (now (far .entry)) (now (weights .entry))) (now (own .entry)) (now (other .entry)) (now (theirs .entry)) u target floor opened (took (now (labels .entry)) (now (neighbours .entry)) (now (states .entry)) best) ⌝ }
 {
     let i = u as usize;
     let length = best.length;
@@ -277,7 +278,7 @@ pub fn side_turn(
     requires { ⌜ Openable (now near) (now far) (now weights) (now labels) (now neighbours) (now theirs) (now states) u ⌝ }
     requires { ⌜ Passed (length (now states)) (now labels) (now own) (now theirs) (now other) ⌝ }
     requires { ⌜ (target < length (now own)) × (mag (p .beyond) < 2 ^ 40) × (opened < 255) × (mag (p .floor) < 2 ^ 40) ⌝ }
-    ensures tables { λ r. ⌜ took (now (labels .exit)) (now (neighbours .exit)) (now (states .exit)) (bestOf r) ≡ taken (network (length (now (labels .entry))) (now (near .entry)) (now (far .entry)) (now (weights .entry))) (now (own .entry)) (now (other .entry)) (now (theirs .entry)) u target (p .beyond) opened (took (now (labels .entry)) (now (neighbours .entry)) (now (states .entry)) (bestOf p)) ⌝ }
+    ensures tables { λ r. ⌜ took (now (labels .exit)) (now (neighbours .exit)) (now (states .exit)) (bestOf r) ≡ nodeTaken (network (length (now (labels .entry))) (now (near .entry)) (now (far .entry)) (now (weights .entry))) (now (own .entry)) (now (other .entry)) (now (theirs .entry)) u target (p .beyond) opened (took (now (labels .entry)) (now (neighbours .entry)) (now (states .entry)) (bestOf p)) ⌝ }
     ensures ahead { λ r. ⌜ Ahead (now (labels .exit)) (now (own .entry)) (now (theirs .entry)) (now (other .entry)) (now (states .exit)) p r ⌝ }
 {
     let beyond = p.beyond;

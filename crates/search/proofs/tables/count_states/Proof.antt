@@ -7,7 +7,8 @@ use lib.ListN.{length, drop, drop-of-length-le}
 use native.Mathlib.Nat.{zero-add}
 use native.Mathlib.Omega.{arith}
 use borrow.Author.Needs.{needs}
-use Rattle.search.specs.Tables.{figuresIn, together}
+use Rattle.nba.specs.Result.{figuresIn}
+use Rattle.search.specs.Tables.{together}
 use Rattle.search.specs.TablesLaws.{together-none, count-next, part-countable}
 use Rattle.search.proofs.tables.count_states.Statement.{statement}
 use Rattle.search.proofs.tables.count_states.Tie as tie

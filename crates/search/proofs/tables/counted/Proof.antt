@@ -2,7 +2,8 @@
 -- the node's state. Assumes nothing.
 use borrow.Author.Needs.{needs}
 use Rattle.nba.specs.Result.{countOf}
-use Rattle.search.specs.Tables.{figuresIn, together}
+use Rattle.nba.specs.Result.{figuresIn}
+use Rattle.search.specs.Tables.{together}
 use Rattle.search.proofs.tables.counted.Statement.{statement}
 use Rattle.search.proofs.tables.counted.Tie as tie
 

@@ -8,8 +8,9 @@ use native.Mathlib.Nat.{zero-add, sub-zero}
 use native.Mathlib.Omega.{arith}
 use borrow.Author.Needs.{needs}
 use Rattle.nba.specs.Result.{trail}
+use Rattle.nba.specs.TrailLaws.{trail-at-source}
 use Rattle.search.specs.Tables.{NodesBelow}
-use Rattle.search.specs.TablesLaws.{trail-home, trail-next, first-below, others-below}
+use Rattle.search.specs.TablesLaws.{trail-next, first-below, others-below}
 use Rattle.search.proofs.tables.trail_length.Statement.{statement}
 use Rattle.search.proofs.tables.trail_length.Tie as tie
 
@@ -28,7 +29,7 @@ loop-holds c = (omega arith, simp (zero-add, sub-zero), simp sub-zero (c .pre))
 returns : tie.Need-returns Inv-loop μ-loop
 returns c =
     let l = c .before .before in
-    omega (arith, rw (trail-home _ _ _ _ (c .if1 .taken)) at (l .loop .inv .1))
+    omega (arith, rw (trail-at-source _ _ _ _ (c .if1 .taken)) at (l .loop .inv .1))
 
 cast-v : tie.Need-cast-v Inv-loop μ-loop
 cast-v c = omega (arith, first-below (c .before .before .loop .inv .2))

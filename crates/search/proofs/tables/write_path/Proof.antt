@@ -4,7 +4,7 @@ use Prim.Native.Nat.{_+_, _≤_}
 use native.Mathlib.Omega.{arith}
 use lib.ListN.{length, length-set}
 use Rattle.network.specs.Network.{mostNodes}
-use Rattle.search.specs.TablesLaws.{start-trail-below, end-trail-below, trail-is, path-length, path-fits, path-few, path-written}
+use Rattle.search.specs.TablesLaws.{start-trail-below, end-trail-below, trail-is, path-length, path-within, path-few, path-written}
 use Rattle.search.proofs.tables.write_path.Statement.{statement}
 use Rattle.search.proofs.tables.write_path.Tie as tie
 
@@ -19,7 +19,7 @@ few : (c : tie.After-trail-length2) → c .before .trail-length .result + 1 + c 
 few c = path-few (c .before .before .before .before .before .pre) _ _ (c .before .trail-length .ensures) (c .trail-length2 .ensures)
 
 room : (c : tie.After-trail-length2) → c .before .trail-length .result + 1 + c .trail-length2 .result ≤ length (c .before .before .before .before .before .args .path .now)
-room c = path-fits (c .before .before .before .before .before .pre) _ _ (c .before .trail-length .ensures) (c .trail-length2 .ensures)
+room c = path-within (c .before .before .before .before .before .pre) _ _ (c .before .trail-length .ensures) (c .trail-length2 .ensures)
 
 write-back-requires : tie.Need-write-back-requires
 write-back-requires c κs =
