@@ -23,7 +23,7 @@ use Rattle.nba.specs.State.{State, present}
 use Rattle.nba.specs.Search.{endState}
 use Rattle.nba.specs.Result.{pathOf, answerAt, figuresIn, found, answerTo}
 use Rattle.search.specs.Tables.{atFront}
-use Rattle.search.specs.Promise.{Lists, shownPath, searched, Left, left}
+use Rattle.search.specs.Promise.{LentLists, shownPath, listsAfter, Left, left, searchLeaves}
 use Rattle.frames.specs.Frame.{mostDigits, frameOf, patternDigits, entriesOf, patternOf}
 use Rattle.frames.specs.FrameCases.{too-long}
 use Rattle.frames.specs.LineSteps.{length-entries}
@@ -52,16 +52,16 @@ found-lines : (q : Query) (old : List ℕ) → answerLines (found q) (atFront (s
 unfolding found answerAt atFront shownPath
 found-lines q old = front-lines q (endState q) old (present (endState q .best)) (pathOf q (endState q)) refl
 
-searched-lines : (q : Query) (l : Lists) → answerLines (found q) (searched q l .path) ≡ answerLines (found q) (pathOf q (endState q))
-unfolding searched
+searched-lines : (q : Query) (l : LentLists) → answerLines (found q) (listsAfter q l .path) ≡ answerLines (found q) (pathOf q (endState q))
+unfolding listsAfter
 searched-lines q l = found-lines q (l .path)
 
 -- what the search of an accepted query leaves is printed as the definition says
-pub left-lines : (q : Query) (l : Lists) (a : Answer) (after : Lists) → queryVerdict q workRoom ≡ Accepted → left a after ≡ left (found q) (searched q l) → answerLines a (after .path) ≡ queryLines q
+pub left-lines : (q : Query) (l : LentLists) (a : Answer) (after : LentLists) → queryVerdict q workRoom ≡ Accepted → left a after ≡ searchLeaves q l → answerLines a (after .path) ≡ queryLines q
 unfolding queryLines answerTo
 left-lines q l a after e h =
     let x : a ≡ found q = ap (λ (y : Left). y .answer) h in
-    let p : after .path ≡ searched q l .path = ap (λ (y : Left). y .lists .path) h in
+    let p : after .path ≡ listsAfter q l .path = ap (λ (y : Left). y .lists .path) h in
     rw (e, x, p) (searched-lines q l)
 
 -- a refused query prints its refusal

@@ -21,9 +21,9 @@ use Rattle.nba.specs.Result.{pathThrough, pathOf, figuresIn, answerAt, found}
 use Rattle.nba.specs.CodeLaws.{end-state-tabled}
 use Rattle.nba.specs.Theorems.{path-fits}
 use Rattle.turn.specs.declared.Best.{Best}
-use Rattle.search.specs.DemandLaws.{refused-left, accepted-left, demand-1-kept, demand-2-kept, demand-3-kept}
-use Rattle.search.specs.Demands.{Demand1, Demand2, Demand3}
-use Rattle.search.specs.Promise.{Lists, lists, lengths, shownPath, searched, left, queried}
+use Rattle.search.specs.DemandLaws.{refused-left, accepted-left, query-kept}
+use Rattle.search.specs.Demands.{QueryKept}
+use Rattle.search.specs.Promise.{LentLists, lentLists, lengths, shownPath, listsAfter, left, searchLeaves}
 use Rattle.search.specs.Run.{Filled, Long, Outcome, outcome, outcomeOf}
 use Rattle.search.specs.Tables.{atFront, PathRoom}
 use Rattle.search.specs.TablesLaws.{nodes-by-entry}
@@ -95,7 +95,7 @@ module _ {q : Query} (sound : Sound q) {sl sn el en states : List ℕ} {best : B
 
 -- ---- the first entries of longer lists
 -- every lent list, cut to one entry a node, has one entry a node
-pub cut-long : {n : ℕ} (l : Lists) → Enough n (lengths l)
+pub cut-long : {n : ℕ} (l : LentLists) → Enough n (lengths l)
     → Long n (take n (l .start-labels)) (take n (l .start-neighbours)) (take n (l .end-labels)) (take n (l .end-neighbours)) (take n (l .states))
 cut-long {n} l e = record {
   labels-long = length-take-le n (l .start-labels) (e .for-start-labels);
@@ -110,27 +110,20 @@ pub cut-same : (n : ℕ) (l cut : List ℕ) → n ≤ length l → length cut �
 cut-same n l cut e h = simp (length-append, length-drop) (omega (arith, e, h, length-take-le n l e))
 
 -- the end state before what stood beyond it is what the search leaves
-pub cut-left : (q : Query) (before : Lists) {r : Answer} {sl sn el en states path : List ℕ} → r ≡ found q → Filled (endState q) sl sn el en states
+pub cut-left : (q : Query) (before : LentLists) {r : Answer} {sl sn el en states path : List ℕ} → r ≡ found q → Filled (endState q) sl sn el en states
     → path ≡ atFront (shownPath q (endState q)) (before .path) → let n = q .network .nodes in
-    left r (lists (sl ++ drop n (before .start-labels)) (sn ++ drop n (before .start-neighbours)) (el ++ drop n (before .end-labels)) (en ++ drop n (before .end-neighbours)) (states ++ drop n (before .states)) path)
-    ≡ left (found q) (searched q before)
-unfolding searched atFront
+    left r (lentLists (sl ++ drop n (before .start-labels)) (sn ++ drop n (before .start-neighbours)) (el ++ drop n (before .end-labels)) (en ++ drop n (before .end-neighbours)) (states ++ drop n (before .states)) path)
+    ≡ searchLeaves q before
+unfolding listsAfter atFront
 cut-left q before a f p =
     let t = end-state-tabled q in
     rw (a, f .start-labels, f .start-neighbours, f .end-labels, f .end-neighbours, f .states, p, t .labels-long start, t .neighbours-long start, t .labels-long end, t .neighbours-long end, t .states-long)
 
 -- ---- the whole query
--- an answer and the lists that a query leaves, with the demands
-abbrev pub Kept : Query → Lists → Lists → Answer → Type 0
-Kept q before after r = (left r after ≡ queried q before) × (Demand1 q before after r × (Demand2 q after r × Demand3 q after r))
-
-kept : (q : Query) (before after : Lists) (r : Answer) → left r after ≡ queried q before → Kept q before after r
-kept q before after r e = (e, (demand-1-kept q before after r e, (demand-2-kept q before after r e, demand-3-kept q before after r e)))
-
 -- a refusal leaves the lists as they are
-pub kept-refused : (q : Query) (l : Lists) (c : Cause) → queryVerdict q (lengths l) ≡ Refusal c → Kept q l l (Refused c)
-kept-refused q l c v = kept q l l (Refused c) (sym (refused-left q l v))
+pub kept-refused : (q : Query) (l : LentLists) (c : Cause) → queryVerdict q (lengths l) ≡ Refusal c → QueryKept q l l (Refused c)
+kept-refused q l c v = query-kept q l l (Refused c) (sym (refused-left q l v))
 
 -- an accepted query leaves what its search leaves
-pub kept-accepted : (q : Query) (before after : Lists) (r : Answer) → queryVerdict q (lengths before) ≡ Accepted → left r after ≡ left (found q) (searched q before) → Kept q before after r
-kept-accepted q before after r v e = kept q before after r (e ∙ sym (accepted-left q before v))
+pub kept-accepted : (q : Query) (before after : LentLists) (r : Answer) → queryVerdict q (lengths before) ≡ Accepted → left r after ≡ searchLeaves q before → QueryKept q before after r
+kept-accepted q before after r v e = query-kept q before after r (e ∙ sym (accepted-left q before v))

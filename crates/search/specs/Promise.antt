@@ -16,7 +16,7 @@ use Rattle.nba.specs.Result.{pathOf, found}
 use Rattle.search.specs.Tables.{atFront}
 
 -- the six lists that a caller lends
-pub record Lists : Type 0 where
+pub record LentLists : Type 0 where
   pub start-labels : List ℕ
   pub start-neighbours : List ℕ
   pub end-labels : List ℕ
@@ -24,8 +24,8 @@ pub record Lists : Type 0 where
   pub states : List ℕ
   pub path : List ℕ
 
-abbrev pub lists : List ℕ → List ℕ → List ℕ → List ℕ → List ℕ → List ℕ → Lists
-lists sl sn el en states path = record {
+abbrev pub lentLists : List ℕ → List ℕ → List ℕ → List ℕ → List ℕ → List ℕ → LentLists
+lentLists sl sn el en states path = record {
   start-labels = sl;
   start-neighbours = sn;
   end-labels = el;
@@ -35,7 +35,7 @@ lists sl sn el en states path = record {
 }
 
 -- how long they are
-abbrev pub lengths : Lists → Lent
+abbrev pub lengths : LentLists → Lent
 lengths l = record {
   «start_labels» = length (l .start-labels);
   «start_neighbours» = length (l .start-neighbours);
@@ -49,10 +49,10 @@ lengths l = record {
 unfoldable pub shownPath : Query → State → List ℕ
 shownPath q st = cond (present (st .best)) (pathOf q st) []
 
--- the first entries of the work lists, one a node, hold the end state, and the path list holds the path from its first entry;
--- all entries beyond keep their old values
-unfoldable pub searched : Query → Lists → Lists
-searched q l =
+-- the lists after a search: the first entries of the work lists, one a node, hold the end state, and the path list holds the
+-- path from its first entry; all entries beyond keep their old values
+unfoldable pub listsAfter : Query → LentLists → LentLists
+listsAfter q l =
     let st = endState q in
     record {
       start-labels = atFront (st .start-half .labels) (l .start-labels);
@@ -66,16 +66,20 @@ searched q l =
 -- an answer, and the lists as they are then
 pub record Left : Type 0 where
   pub answer : Answer
-  pub lists : Lists
+  pub lists : LentLists
 
-abbrev pub left : Answer → Lists → Left
+abbrev pub left : Answer → LentLists → Left
 left a l = record { answer = a; lists = l }
 
+-- what the search of an accepted query leaves
+abbrev pub searchLeaves : Query → LentLists → Left
+searchLeaves q l = left (found q) (listsAfter q l)
+
 -- a refusal leaves all lent lists untouched; an accepted query is searched
-abbrev pub leftBy : Verdict → Query → Lists → Left
-leftBy (Refusal c) q l = left (Refused c) l
-leftBy Accepted q l = left (found q) (searched q l)
+abbrev pub verdictLeaves : Verdict → Query → LentLists → Left
+verdictLeaves (Refusal c) q l = left (Refused c) l
+verdictLeaves Accepted q l = searchLeaves q l
 
 -- what a query leaves
-unfoldable pub queried : Query → Lists → Left
-queried q l = leftBy (queryVerdict q (lengths l)) q l
+unfoldable pub queried : Query → LentLists → Left
+queried q l = verdictLeaves (queryVerdict q (lengths l)) q l

@@ -15,8 +15,8 @@ ghost use Rattle.network.specs.Query.{query as asked};
 ghost use Rattle.network.specs.Refusal.{queryVerdict};
 ghost use Rattle.nba.specs.Result.{found};
 ghost use Rattle.nba.specs.Search.{endState};
-ghost use Rattle.search.specs.Demands.{Demand1, Demand2, Demand3};
-ghost use Rattle.search.specs.Promise.{left, lengths, lists, queried, searched as leaves, shownPath};
+ghost use Rattle.search.specs.Demands.{QueryKept};
+ghost use Rattle.search.specs.Promise.{left, lengths, lentLists, searchLeaves, shownPath};
 ghost use Rattle.search.specs.Run.{Filled, Long};
 ghost use Rattle.search.specs.Tables.{atFront};
 
@@ -92,8 +92,15 @@ pub fn search_accepted(
     states: &mut [u8],
     path: &mut [u16],
 ) -> Answer
-    requires { ⌜ queryVerdict (asked (network nodes (now tails) (now heads) (now weights)) (now forward) (now backward) start end (now pattern)) (lengths (lists (now «start_labels») (now «start_neighbours») (now «end_labels») (now «end_neighbours») (now states) (now path))) ≡ Verdict.Accepted ⌝ }
-    ensures { λ r. ⌜ left r (lists (now («start_labels» .exit)) (now («start_neighbours» .exit)) (now («end_labels» .exit)) (now («end_neighbours» .exit)) (now (states .exit)) (now (path .exit))) ≡ left (found (asked (network nodes (now (tails .entry)) (now (heads .entry)) (now (weights .entry))) (now (forward .entry)) (now (backward .entry)) start end (now (pattern .entry)))) (leaves (asked (network nodes (now (tails .entry)) (now (heads .entry)) (now (weights .entry))) (now (forward .entry)) (now (backward .entry)) start end (now (pattern .entry))) (lists (now («start_labels» .entry)) (now («start_neighbours» .entry)) (now («end_labels» .entry)) (now («end_neighbours» .entry)) (now (states .entry)) (now (path .entry)))) ⌝ }
+    requires { ⌜ queryVerdict
+        (asked (network nodes (now tails) (now heads) (now weights)) (now forward) (now backward) start end (now pattern))
+        (lengths (lentLists (now «start_labels») (now «start_neighbours») (now «end_labels») (now «end_neighbours») (now states) (now path)))
+        ≡ Verdict.Accepted ⌝ }
+    ensures { λ r. ⌜ left r
+        (lentLists (now («start_labels» .exit)) (now («start_neighbours» .exit)) (now («end_labels» .exit)) (now («end_neighbours» .exit)) (now (states .exit)) (now (path .exit)))
+        ≡ searchLeaves
+        (asked (network nodes (now (tails .entry)) (now (heads .entry)) (now (weights .entry))) (now (forward .entry)) (now (backward .entry)) start end (now (pattern .entry)))
+        (lentLists (now («start_labels» .entry)) (now («start_neighbours» .entry)) (now («end_labels» .entry)) (now («end_neighbours» .entry)) (now (states .entry)) (now (path .entry))) ⌝ }
 {
     let n = nodes as usize;
     searched(
@@ -132,10 +139,11 @@ pub fn query(
     states: &mut [u8],
     path: &mut [u16],
 ) -> Answer
-    ensures leaves { λ r. ⌜ left r (lists (now («start_labels» .exit)) (now («start_neighbours» .exit)) (now («end_labels» .exit)) (now («end_neighbours» .exit)) (now (states .exit)) (now (path .exit))) ≡ queried (asked (network nodes (now (tails .entry)) (now (heads .entry)) (now (weights .entry))) (now (forward .entry)) (now (backward .entry)) start end (now (pattern .entry))) (lists (now («start_labels» .entry)) (now («start_neighbours» .entry)) (now («end_labels» .entry)) (now («end_neighbours» .entry)) (now (states .entry)) (now (path .entry))) ⌝ }
-    ensures demand1 { λ r. ⌜ Demand1 (asked (network nodes (now (tails .entry)) (now (heads .entry)) (now (weights .entry))) (now (forward .entry)) (now (backward .entry)) start end (now (pattern .entry))) (lists (now («start_labels» .entry)) (now («start_neighbours» .entry)) (now («end_labels» .entry)) (now («end_neighbours» .entry)) (now (states .entry)) (now (path .entry))) (lists (now («start_labels» .exit)) (now («start_neighbours» .exit)) (now («end_labels» .exit)) (now («end_neighbours» .exit)) (now (states .exit)) (now (path .exit))) r ⌝ }
-    ensures demand2 { λ r. ⌜ Demand2 (asked (network nodes (now (tails .entry)) (now (heads .entry)) (now (weights .entry))) (now (forward .entry)) (now (backward .entry)) start end (now (pattern .entry))) (lists (now («start_labels» .exit)) (now («start_neighbours» .exit)) (now («end_labels» .exit)) (now («end_neighbours» .exit)) (now (states .exit)) (now (path .exit))) r ⌝ }
-    ensures demand3 { λ r. ⌜ Demand3 (asked (network nodes (now (tails .entry)) (now (heads .entry)) (now (weights .entry))) (now (forward .entry)) (now (backward .entry)) start end (now (pattern .entry))) (lists (now («start_labels» .exit)) (now («start_neighbours» .exit)) (now («end_labels» .exit)) (now («end_neighbours» .exit)) (now (states .exit)) (now (path .exit))) r ⌝ }
+    ensures { λ r. ⌜ QueryKept
+        (asked (network nodes (now (tails .entry)) (now (heads .entry)) (now (weights .entry))) (now (forward .entry)) (now (backward .entry)) start end (now (pattern .entry)))
+        (lentLists (now («start_labels» .entry)) (now («start_neighbours» .entry)) (now («end_labels» .entry)) (now («end_neighbours» .entry)) (now (states .entry)) (now (path .entry)))
+        (lentLists (now («start_labels» .exit)) (now («start_neighbours» .exit)) (now («end_labels» .exit)) (now («end_neighbours» .exit)) (now (states .exit)) (now (path .exit)))
+        r ⌝ }
 {
     let lent = Lent {
         start_labels: start_labels.len(),

@@ -2,7 +2,7 @@
 use mathlib.Core.Path.{sym, _∙_}
 use Rattle.network.specs.Network.{network}
 use Rattle.network.specs.Query.{Query, query}
-use Rattle.search.specs.Promise.{Lists, lists}
+use Rattle.search.specs.Promise.{LentLists, lentLists}
 use Rattle.search.proofs.AnswerLaws.{kept-refused, kept-accepted}
 use borrow.Author.Needs.{needs}
 use Rattle.search.proofs.query.Statement.{statement}
@@ -14,9 +14,9 @@ asked s =
     query (network (s .args .nodes) (s .args .tails .now) (s .args .heads .now) (s .args .weights .now)) (s .args .forward .now) (s .args .backward .now)
     (s .args .start) (s .args .end) (s .args .pattern .now)
 
-abbrev entry : tie.Start → Lists
+abbrev entry : tie.Start → LentLists
 entry s =
-    lists (s .args .start-labels .now) (s .args .start-neighbours .now) (s .args .end-labels .now) (s .args .end-neighbours .now)
+    lentLists (s .args .start-labels .now) (s .args .start-neighbours .now) (s .args .end-labels .now) (s .args .end-neighbours .now)
     (s .args .states .now) (s .args .path .now)
 
 check-query-requires : tie.Need-check-query-requires

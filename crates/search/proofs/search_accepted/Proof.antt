@@ -6,7 +6,7 @@ use Rattle.network.specs.Given.{Enough}
 use Rattle.network.specs.Network.{network}
 use Rattle.network.specs.Query.{Query, query}
 use Rattle.network.specs.SoundLaws.{accepted-sound, accepted-enough}
-use Rattle.search.specs.Promise.{Lists, lists, lengths}
+use Rattle.search.specs.Promise.{LentLists, lentLists, lengths}
 use Rattle.search.proofs.AnswerLaws.{cut-long, cut-left, cut-same}
 use Rattle.search.proofs.search_accepted.Statement.{statement}
 use Rattle.search.proofs.search_accepted.Tie as tie
@@ -17,9 +17,9 @@ asked s =
     query (network (s .args .nodes) (s .args .tails .now) (s .args .heads .now) (s .args .weights .now)) (s .args .forward .now) (s .args .backward .now)
     (s .args .start) (s .args .end) (s .args .pattern .now)
 
-abbrev entry : tie.Start → Lists
+abbrev entry : tie.Start → LentLists
 entry s =
-    lists (s .args .start-labels .now) (s .args .start-neighbours .now) (s .args .end-labels .now) (s .args .end-neighbours .now)
+    lentLists (s .args .start-labels .now) (s .args .start-neighbours .now) (s .args .end-labels .now) (s .args .end-neighbours .now)
     (s .args .states .now) (s .args .path .now)
 
 -- each list is long enough
