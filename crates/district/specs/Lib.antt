@@ -1,4 +1,5 @@
 pub mod File
+pub mod Lines
 pub mod Reader
 pub mod Inner
 pub mod ReaderLaws
@@ -6,6 +7,7 @@ pub mod TakenLaws
 pub mod QueryLaws
 pub mod StepCases
 pub mod FileLaws
+pub mod LinesLaws
 pub mod OneAnswer
 pub mod Cases
 pub mod PrintLaws
