@@ -173,14 +173,14 @@ module _ (single : Bool) (first : ℕ) (bytes : List ℕ) where
   row-end i e = rw (e, take-length (linesOf bytes .whole)) (verdict-end single first nothingTold (linesOf bytes .whole) (linesOf bytes .rest))
 
   -- a line whose verdict accepts it is taken, and the other way round
-  accepted-taken : (i : ℕ) → frameVerdict single (first + i) (toldAfter bytes i) (frameAfter bytes i) ≡ Accepted → TakenAfter single first bytes i
+  pub accepted-taken : (i : ℕ) → frameVerdict single (first + i) (toldAfter bytes i) (frameAfter bytes i) ≡ Accepted → TakenAfter single first bytes i
   accepted-taken i e =
       by-eq (first + i) lastLine (λ l. absurd (refused≢accepted (sym (verdict-last single _ _ _ l) ∙ e)))
       (λ l. by-bool (mayStand single (toldAfter bytes i) (frameAfter bytes i))
       (λ m. record { numbered = l; may-stand = m; good-counts = sym (verdict-counts single _ _ _ l m) ∙ e })
       (λ m. absurd (refused≢accepted (sym (verdict-wrong single _ _ _ l m) ∙ e))))
 
-  taken-accepted : (i : ℕ) → TakenAfter single first bytes i → frameVerdict single (first + i) (toldAfter bytes i) (frameAfter bytes i) ≡ Accepted
+  pub taken-accepted : (i : ℕ) → TakenAfter single first bytes i → frameVerdict single (first + i) (toldAfter bytes i) (frameAfter bytes i) ≡ Accepted
   taken-accepted i t = verdict-counts single _ _ _ (t .numbered) (t .may-stand) ∙ t .good-counts
 
   told-next : (i : ℕ) → i < lineCount bytes → toldAfter bytes (suc i) ≡ toldWith (toldAfter bytes i) (frameAfter bytes i)
