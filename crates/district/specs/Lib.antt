@@ -1,4 +1,6 @@
 pub mod File
+pub mod Lines
+pub mod FileGiven
 pub mod Reader
 pub mod Inner
 pub mod ReaderLaws
@@ -6,6 +8,9 @@ pub mod TakenLaws
 pub mod QueryLaws
 pub mod StepCases
 pub mod FileLaws
+pub mod LinesLaws
+pub mod FileGivenLaws
 pub mod OneAnswer
 pub mod Cases
+pub mod LinesCases
 pub mod PrintLaws
