@@ -1,5 +1,5 @@
 // The cases of document 01, run: P1 to P12, those that are run and not proved, and its own lines of district frames. What
-// the program writes is compared with what document 01 and an independent reckoning say.
+// the program writes is compared with the file `stdout`; what that says of P1 to P12 an independent program reckons too.
 mod bounds;
 mod lines;
 mod searches;

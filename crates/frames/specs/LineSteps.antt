@@ -71,8 +71,8 @@ entries-more s i h =
     let next : 12 + (i + 1) ≡ suc (12 + i) = omega arith in
     rw (next, drop-cons s (12 + i) 0)
 
-pub entries-end : (s : List ℕ) (i : ℕ) → length s ≤ 12 + i → entriesLeft s i ≡ []
-entries-end s i h = rw (drop-of-length-le s h)
+pub entries-all-read : (s : List ℕ) (i : ℕ) → length s ≤ 12 + i → entriesLeft s i ≡ []
+entries-all-read s i h = rw (drop-of-length-le s h)
 
 pub length-entries : (s : List ℕ) → length (patternDigits s) ≡ length s - 12
 unfolding patternDigits

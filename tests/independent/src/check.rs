@@ -5,7 +5,7 @@ use crate::display;
 use crate::frames::{self, FileAnswer, Reader};
 use crate::laws;
 use crate::make;
-use crate::model::{self, Answer, Fault, Network, Query, Refusal, Side, State};
+use crate::model::{self, Answer, Fault, Half, Network, Query, Refusal, Search, Side, State};
 use crate::program;
 use crate::random::Random;
 use std::fs;
@@ -287,28 +287,35 @@ pub fn describe(network: &Network) -> String {
     text
 }
 
-/// The work lists at the end of a query as document 01 has them, a line a node:
-/// node, start side's label and neighbour, end side's label and neighbour, state.
+/// The work lists at the end of a query as document 01 has them, a line a node: the
+/// node and its row.
 pub fn tables(network: &Network, query: &Query) -> String {
     let mut text = format!("query from {} to {}\n", query.start, query.end);
     let outcome = model::answer(network, query, None);
     let Some(tables) = outcome.tables else {
         return text + "refused: the lists are untouched\n";
     };
-    let label = |label: Option<i64>| label.unwrap_or(4_294_967_295);
-    let neighbour = |neighbour: Option<usize>| neighbour.unwrap_or(65_535);
-    for (node, state) in tables.states.iter().enumerate() {
-        let state = match state {
+    for (node, [label, neighbour, end_label, end_neighbour, state]) in rows(&tables).into_iter().enumerate() {
+        text += &format!("{node} {label} {neighbour} {end_label} {end_neighbour} {state}\n");
+    }
+    text
+}
+
+/// A row a node, with document 01's numbers for what is missing and for the states:
+/// start side's label and neighbour, end side's label and neighbour, state.
+pub fn rows(search: &Search) -> Vec<[i64; 5]> {
+    let label = |half: &Half, node: usize| half.labels[node].unwrap_or(4_294_967_295);
+    let neighbour = |half: &Half, node: usize| half.neighbours[node].map_or(65_535, |near| near as i64);
+    let row = |node: usize| {
+        let (start, end) = (&search.start_half, &search.end_half);
+        let state = match search.states[node] {
             State::Undecided => 0,
             State::Opened(Side::Start) => 1,
             State::Rejected(Side::Start) => 2,
             State::Opened(Side::End) => 3,
             State::Rejected(Side::End) => 4,
         };
-        let (start, end) = (&tables.start_half, &tables.end_half);
-        let of_start = (label(start.labels[node]), neighbour(start.neighbours[node]));
-        let of_end = (label(end.labels[node]), neighbour(end.neighbours[node]));
-        text += &format!("{node} {} {} {} {} {state}\n", of_start.0, of_start.1, of_end.0, of_end.1);
-    }
-    text
+        [label(start, node), neighbour(start, node), label(end, node), neighbour(end, node), state]
+    };
+    (0..search.states.len()).map(row).collect()
 }

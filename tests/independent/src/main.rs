@@ -1,5 +1,6 @@
 //! Command line of the independent program; see README.md.
 
+use independent::cases;
 use independent::check::{self, Plan};
 use independent::display;
 use independent::frames::{self, Reader};
@@ -29,6 +30,7 @@ independent answer [--display] [--fault NAME] < FILE   print the independent ans
 independent make SEED         print the file of a seed
 independent show < FILE       print a file's network in words
 independent tables < FILE     print the work lists at the end of each query
+independent cases [--fault NAME]   print P1 to P12 with their work lists, as the program `cases` should
 ";
 
 const FIXED_SEEDS: Range<u64> = 0..20_000;
@@ -45,6 +47,7 @@ fn main() -> ExitCode {
         "make" => make_file(rest),
         "show" => show(),
         "tables" => tables(),
+        "cases" => p_cases(rest),
         _ => Err(format!("no command {command}")),
     };
     match done {
@@ -183,4 +186,13 @@ fn tables() -> Result<bool, String> {
         print(check::tables(&file.network, query).as_bytes())?;
     }
     Ok(true)
+}
+
+fn p_cases(arguments: &[String]) -> Result<bool, String> {
+    let chosen = match arguments {
+        [] => None,
+        [flag, name] if flag == "--fault" => Some(fault(name)?),
+        _ => return Err("cases takes no flag but --fault NAME".into()),
+    };
+    print(cases::text(chosen).as_bytes())
 }

@@ -1,6 +1,7 @@
 //! Tests of the independent program itself: document 01's cases, the order of
 //! lines, the demands over made files, and that the tests notice faults.
 
+use crate::cases::{self, D5, ZERO};
 use crate::check;
 use crate::display::{self, Shown};
 use crate::frames::{self, answer_file, answer_file_up_to, Reader};
@@ -12,7 +13,7 @@ type Passed = Result<(), String>;
 type Test = (&'static str, fn() -> Passed);
 
 const TESTS: [Test; 11] = [
-    ("document 01's cases P1 to P12", cases),
+    ("document 01's cases P1 to P12", p_cases),
     ("document 01's run-only cases", run_only_cases),
     ("sound frames and others", sound_frames),
     ("the order of lines", order_of_lines),
@@ -57,52 +58,33 @@ fn shown(file: &str) -> String {
 
 // ---------------------------------------------------------------- cases of document 01
 
-/// District D5 without a query, as document 01 prints it.
-const D5: &str = "0100050005
-020000000100000001
-020001000200000001
-020002000300000001
-020000000400000002
-020004000300000002
-0300000000000000000000
-0300010000000000000000
-0300020000000000000000
-0300030000000000000000
-0300040000000000000000
-";
-
-/// Two nodes and one arc from 0 to 1, with a query from 0 to 1 and pattern 0.
-fn pair(weight: &str, first: &str, second: &str) -> String {
-    format!("0100020001\n0200000001{weight}\n030000{first}\n030001{second}\n0400000001010\n")
-}
-
-const ZERO: &str = "0000000000000000";
-
 /// What a pair answers where it passes, with the length's digits.
 fn pair_route(length: &str) -> String {
     format!("81{length}00020002000100000001\n8200000001\n")
 }
 
-fn cases() -> Passed {
-    let d5 = |query: &str| program(&format!("{D5}{query}\n"));
-    same("P1", &d5("04000000030201"), "810000000300040005000200010002\n820000000100020003\n")?;
-    same("P2", &d5("0400000003011"), "810000000300040005000000040001\n820000000100020003\n")?;
-    same("P3", &d5("04000200020201"), "810000000000010000000000000000\n820002\n")?;
-    same("P4", &d5("04000300000201"), "800001000100000000\n")?;
-    same("P5", &program(&pair("00000001", "0000000100000000", ZERO)), &pair_route("00000001"))?;
-    same("P6", &program(&pair("00000001", "0000000200000000", ZERO)), "FF0900000000\n")?;
-    same("P7", &program(&pair("000F4240", ZERO, ZERO)), &pair_route("000F4240"))?;
-    same("P8", &program(&pair("000F4241", ZERO, ZERO)), "FF0700000000\n")?;
-    let low = "85FD424085FD4240";
-    same("P9", &program(&pair("00000001", low, low)), &pair_route("00000001"))?;
-    same("P10, h", &program(&pair("00000001", "85FD423F85FD4240", low)), "FF0800000000\n")?;
-    same("P10, k", &program(&pair("00000001", "85FD424085FD423F", low)), "FF0800000000\n")?;
-    same(
-        "P11",
-        &program("0100010000\n0300000000000000000000\n0400000000010\n"),
+fn p_cases() -> Passed {
+    let one = pair_route("00000001");
+    let million = pair_route("000F4240");
+    let expected = [
+        "810000000300040005000200010002\n820000000100020003\n",
+        "810000000300040005000000040001\n820000000100020003\n",
+        "810000000000010000000000000000\n820002\n",
+        "800001000100000000\n",
+        &one,
+        "FF0900000000\n",
+        &million,
+        "FF0700000000\n",
+        &one,
+        "FF0800000000\n",
         "810000000000010000000000000000\n820000\n",
-    )?;
-    same("P12", &d5("0400050003012"), "FF0400000000\n")
+        "FF0400000000\n",
+    ];
+    for ((name, file), expected) in cases::files().iter().zip(expected) {
+        same(name, &program(file), expected)?;
+    }
+    let of_k = cases::pair("00000001", "0000000085FD423F", ZERO, "0400000001010");
+    same("P10, of k", &program(&of_k), "FF0800000000\n")
 }
 
 fn run_only_cases() -> Passed {

@@ -7,7 +7,7 @@ use native.Mathlib.Omega.{arith}
 use lib.ListN.{length}
 use Rattle.frames.specs.Frame.{patternDigits}
 use Rattle.frames.specs.RoomLaws.{Underway, underway-start, underway-entry, underway-end}
-use Rattle.frames.specs.LineSteps.{entriesLeft, entries-more, entries-end, length-entries}
+use Rattle.frames.specs.LineSteps.{entriesLeft, entries-more, entries-all-read, length-entries}
 use Rattle.frames.proofs.write_entries.Statement.{statement}
 use Rattle.frames.proofs.write_entries.Tie as tie
 
@@ -58,7 +58,7 @@ unfolding patternDigits
 returns c =
     let a = c .before .before .before .before .args in
     let l = c .before .loop in
-    underway-end _ (a .entries .now) (l .entries) (l .i) (rw (entries-end (a .line .now) (l .i) (omega arith)) at (l .inv .1)) .room-is
+    underway-end _ (a .entries .now) (l .entries) (l .i) (rw (entries-all-read (a .line .now) (l .i) (omega arith)) at (l .inv .1)) .room-is
 
 pub write-entries-spec : {M : Type 1} → statement M
 write-entries-spec =

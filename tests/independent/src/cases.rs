@@ -1,0 +1,102 @@
+//! Document 01's cases P1 to P12 as files, and what the program `cases` should print of
+//! them: the answer in words, the path, the five work lists, and the answer lines.
+
+use crate::check;
+use crate::frames::{self, Reader};
+use crate::model::{self, Answer, Fault, Figures};
+
+/// District D5 without a query, as document 01 prints it.
+pub const D5: &str = "0100050005
+020000000100000001
+020001000200000001
+020002000300000001
+020000000400000002
+020004000300000002
+0300000000000000000000
+0300010000000000000000
+0300020000000000000000
+0300030000000000000000
+0300040000000000000000
+";
+
+/// The digits of both potentials of a node, where they are zero.
+pub const ZERO: &str = "0000000000000000";
+
+/// Two nodes and one arc from 0 to 1: the arc's weight, the potentials of each node, and the query.
+pub fn pair(weight: &str, first: &str, second: &str, query: &str) -> String {
+    format!("0100020001\n0200000001{weight}\n030000{first}\n030001{second}\n{query}\n")
+}
+
+/// P1 to P12 by name.
+pub fn files() -> [(&'static str, String); 12] {
+    let d5 = |query: &str| format!("{D5}{query}\n");
+    let low = "85FD424085FD4240";
+    let there = "0400000001010";
+    [
+        ("P1", d5("04000000030201")),
+        ("P2", d5("0400000003011")),
+        ("P3", d5("04000200020201")),
+        ("P4", d5("04000300000201")),
+        ("P5", pair("00000001", "0000000100000000", ZERO, there)),
+        ("P6", pair("00000001", "0000000200000000", ZERO, there)),
+        ("P7", pair("000F4240", ZERO, ZERO, there)),
+        ("P8", pair("000F4241", ZERO, ZERO, there)),
+        ("P9", pair("00000001", low, low, there)),
+        ("P10", pair("00000001", "85FD423F00000000", ZERO, there)),
+        ("P11", format!("0100010000\n030000{ZERO}\n0400000000010\n")),
+        ("P12", pair("00000001", ZERO, ZERO, "040002000100")),
+    ]
+}
+
+// ---------------------------------------------------------------- what is printed
+
+/// The entries of each lent list, and what each holds before the query.
+const LENT: usize = 8;
+const OLD: i64 = 77;
+
+/// The text of P1 to P12, in this order.
+pub fn text(fault: Option<Fault>) -> String {
+    files().iter().map(|(name, file)| case(name, file, fault)).collect()
+}
+
+fn case(name: &str, file: &str, fault: Option<Fault>) -> String {
+    let read = frames::answer_file(file.as_bytes(), Reader::Program, fault);
+    let (query, answer) = &read.asked[0];
+    let path: Vec<i64> = match answer {
+        Answer::Route { path, .. } => path.iter().map(|&node| node as i64).collect(),
+        _ => Vec::new(),
+    };
+    let tables = model::answer(&read.network, query, fault).tables;
+    let rows = tables.map_or(Vec::new(), |tables| check::rows(&tables));
+    let mut text = format!("{name}: {}\n{}", words(answer), list("path", &path));
+    for (at, title) in ["start labels", "start neighbours", "end labels", "end neighbours", "states"].iter().enumerate() {
+        let entries: Vec<i64> = rows.iter().map(|row| row[at]).collect();
+        text += &list(title, &entries);
+    }
+    text + &frames::answer_lines(answer)
+}
+
+/// The entries that a query leaves, and after a bar the old ones beyond them.
+fn list(title: &str, written: &[i64]) -> String {
+    let mut text = format!("  {title}:");
+    for at in 0..LENT {
+        let bar = if at == written.len() { " |" } else { "" };
+        text += &format!("{bar} {}", written.get(at).unwrap_or(&OLD));
+    }
+    text + "\n"
+}
+
+fn words(answer: &Answer) -> String {
+    match answer {
+        Answer::Route { length, path, figures } => {
+            format!("route, length {length}, path nodes {}, {}", path.len(), figures_words(figures))
+        }
+        Answer::NoRoute { figures } => format!("no route, {}", figures_words(figures)),
+        Answer::Refused(refusal) => format!("refused, {}", frames::refusal_line(*refusal).trim_end()),
+    }
+}
+
+fn figures_words(figures: &Figures) -> String {
+    let Figures { turns, opened_by_start, opened_by_end, rejected } = figures;
+    format!("turns {turns}, opened by start side {opened_by_start}, by end side {opened_by_end}, rejected {rejected}")
+}
