@@ -6,6 +6,7 @@ pub mod TakenLaws
 pub mod QueryLaws
 pub mod StepCases
 pub mod FileLaws
+pub mod NeverEmpty
 pub mod OneAnswer
 pub mod Cases
 pub mod PrintLaws
