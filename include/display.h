@@ -18,8 +18,8 @@ extern "C" {
 #endif
 
 /*
- * A room of this many bytes always suffices: the line of a route (31 bytes), the line of a path over 2,048 nodes (8,195)
- * and the line of a file refusal that follows the answer (13).
+ * A room of this many bytes always suffices, and one that is smaller may not: the line of a route (31 bytes), the line of a
+ * path over 2,048 nodes (8,195) and the line of a file refusal that follows the answer (13).
  */
 #define DISPLAY_ROOM (31 + 8195 + 13)
 
@@ -43,7 +43,8 @@ extern "C" {
  *                    its query with what may not stand there
  *
  * Returns the count of bytes written, which is at least 13. The bytes of the room beyond them are unchanged.
- * Returns 0 if the lines do not fit; then the whole room is unchanged. A larger room gives the answer.
+ * Returns 0 if the lines do not fit, and only then: no answer is empty. Then the whole room is unchanged, and a larger room
+ * gives the answer.
  *
  * The caller sees to it that
  *   - file may be read for file_len bytes and room read and written for room_len bytes while the function runs;

@@ -140,6 +140,7 @@ CASES = [
     ("consistency of k", pair(k=(0, 2)), "FF0900000000\n", None),
     ("a tail that is no node", pair().replace("0200000001", "0200020001"), "FF0700000000\n", None),
     ("2,048 nodes in a row", long_road(), None, None),
+    ("the longest answer and a refusal after it", long_road() + query(0, 0, "0"), None, None),
     ("8,192 arcs", full_arcs(8192), None, None),
 ]
 

@@ -1,14 +1,22 @@
 -- What the display's entry promises, in document 01's words: lines that fit stand at the front of the room, the count is theirs,
 -- and the bytes beyond them are unchanged; lines that do not fit leave the room unchanged, and the count is 0. Nothing else is
--- admitted. Assumes nothing.
+-- admitted. And what the header says of the count: 0 means only that the lines do not fit, any other count is at least 13, and
+-- there is a room that always suffices. Assumes nothing.
 use mathlib.Core.Path.{_≡_, sym, _∙_}
+use mathlib.Core.Bool.{true}
 use mathlib.Core.List.{List}
-use Prim.Native.Nat.{ℕ, _<_, _≤_}
+use mathlib.Core.Logic.{_↔_}
+use Prim.Native.Nat.{ℕ, _+_, _<_, _≤_}
+use native.Mathlib.Omega.{arith}
 use lib.ListN.{length, take, drop}
 use lib.Seq.{take-at, drop-at}
 use borrow.Author.Tests.{le-leb, lt-leb}
+use Rattle.network.specs.CaseSplit.{by-lt}
 use Rattle.frames.specs.Room.{laid, placed, counted, Placed}
 use Rattle.district.specs.File.{displayAnswer}
+use Rattle.district.specs.Reader.{mostBytes, refusalBytes}
+use Rattle.district.specs.NeverEmpty.{answer-least}
+use Rattle.display.specs.GatherLaws.{display-bytes}
 
 -- the contract of `display_answer` admits a single count and a single room at exit
 pub display-one-answer : (file room after after′ : List ℕ) (count count′ : ℕ) → Placed (displayAnswer file) room after count → Placed (displayAnswer file) room after′ count′ → (count ≡ count′) × (after ≡ after′)
@@ -43,3 +51,17 @@ module _ (file room after : List ℕ) (count : ℕ) (p : Placed (displayAnswer f
     pub display-unchanged : after ≡ room
     unfolding placed
     display-unchanged = p .room-is ∙ rw (lt-leb (length (displayAnswer file)) (length room) short)
+
+  -- the header: no answer is empty, so 0 is returned exactly where the lines do not fit
+  pub display-zero-exactly : (count ≡ 0) ↔ (length room < length (displayAnswer file))
+  display-zero-exactly =
+      (λ none. by-lt (length room) (length (displayAnswer file)) (λ short. short) (λ fits. absurd (omega (arith, none, display-count fits, answer-least true 1 file))),
+      display-none)
+
+  -- and lines that fit are at least a refusal's, 13 bytes
+  pub display-at-least : length (displayAnswer file) ≤ length room → refusalBytes ≤ count
+  display-at-least fits = omega (arith, display-count fits, answer-least true 1 file)
+
+  -- in a room for the longest answer and a refusal's line, the header's DISPLAY_ROOM, every file's lines fit
+  pub display-room-suffices : mostBytes + refusalBytes ≤ length room → count ≡ length (displayAnswer file)
+  display-room-suffices large = display-count (omega (arith, large, display-bytes file))

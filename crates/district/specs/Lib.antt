@@ -1,6 +1,7 @@
 pub mod File
 pub mod Lines
 pub mod FileGiven
+pub mod SecondQuery
 pub mod Reader
 pub mod Inner
 pub mod ReaderLaws
@@ -10,6 +11,8 @@ pub mod StepCases
 pub mod FileLaws
 pub mod LinesLaws
 pub mod FileGivenLaws
+pub mod SecondQueryLaws
+pub mod NeverEmpty
 pub mod OneAnswer
 pub mod Cases
 pub mod LinesCases
