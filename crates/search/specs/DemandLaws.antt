@@ -25,8 +25,8 @@ use Rattle.nba.specs.State.{missing, present, labelOf, stateOf}
 use Rattle.nba.specs.Search.{endState}
 use Rattle.nba.specs.Result.{figuresIn, answerAt, found}
 use Rattle.nba.specs.Demands.{Joined, alone, next, path}
-use Rattle.nba.specs.CodeLaws.{end-state-tabled}
-use Rattle.nba.specs.Theorems.{demand-2, demand-3-opened-end, demand-3-bound, figures-end, path-fits}
+use Rattle.nba.specs.Why.CodeLaws.{end-state-tabled}
+use Rattle.nba.specs.Why.Theorems.{demand-2, demand-3-opened-end, demand-3-bound, figures-end, path-fits}
 use Rattle.search.specs.Tables.{atFront}
 use Rattle.search.specs.Promise.{Lists, lists, lengths, shownPath, searched, Left, left, queried}
 use Rattle.search.specs.Demands.{Demand1, Demand2, Demand3, HasFigures, of-route, of-none, labelsIn}
