@@ -10,6 +10,7 @@
 --     ByMarkLaws                              the search by marks is the search
 --     EndLaws                                 the state at the end, start equal to end included
 --     Fits, Theorems, Accepted                the demands, of every sound query and of every accepted one
+--     Longest                                 the largest shortest length is reached
 pub mod ByMark
 pub mod Tabled
 pub mod StateLaws
@@ -38,3 +39,4 @@ pub mod EndLaws
 pub mod Fits
 pub mod Theorems
 pub mod Accepted
+pub mod Longest
