@@ -18,7 +18,7 @@ use Rattle.network.specs.Given.{Sound}
 use Rattle.network.specs.SoundLaws.{accepted-sound}
 use Rattle.nba.specs.Search.{endState}
 use Rattle.nba.specs.Result.{pathOf, found, refusedOr, answerTo}
-use Rattle.nba.specs.Theorems.{path-fits}
+use Rattle.nba.specs.Why.Theorems.{path-fits}
 use Rattle.frames.specs.AnswerLines.{answerLines}
 use Rattle.frames.specs.AnswerLaws.{length-refused, length-no-route, length-route}
 use Rattle.district.specs.StepCases.{by-line, by-broken, by-byte, by-end}

@@ -1,34 +1,10 @@
+-- What has to be believed stands in four files: what a search keeps, the search step by step, what is read off its end, and
+-- what is demanded of it.
 pub mod State
 pub mod Search
 pub mod Result
 pub mod Demands
-pub mod ByMark
-pub mod Tabled
-pub mod StateLaws
-pub mod CodeLaws
-pub mod Measures
-pub mod LeastLaws
-pub mod LookLaws
-pub mod CountLaws
-pub mod Moved
-pub mod MeasureLaws
-pub mod TurnLaws
-pub mod UndecidedWalk
-pub mod MovedLaws
-pub mod BeginningLaws
-pub mod Ways
-pub mod Trails
-pub mod Settled
-pub mod Exact
-pub mod Invariant
-pub mod RunLaws
-pub mod TrailLaws
-pub mod PathLaws
-pub mod ShortWalk
-pub mod ByMarkLaws
-pub mod EndLaws
-pub mod Fits
-pub mod Theorems
-pub mod Accepted
+-- The cases of document 01 marked P, and readings that go wrong, computed by these definitions.
 pub mod Cases
-pub mod Longest
+-- Why the demands are met. Nothing below has to be believed: the checker reads it.
+pub mod Why

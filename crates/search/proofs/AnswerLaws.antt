@@ -18,8 +18,8 @@ use Rattle.network.specs.Refusal.{queryVerdict}
 use Rattle.nba.specs.State.{missing}
 use Rattle.nba.specs.Search.{endState}
 use Rattle.nba.specs.Result.{pathThrough, pathOf, figuresIn, answerAt, found}
-use Rattle.nba.specs.CodeLaws.{end-state-tabled}
-use Rattle.nba.specs.Theorems.{path-fits}
+use Rattle.nba.specs.Why.CodeLaws.{end-state-tabled}
+use Rattle.nba.specs.Why.Theorems.{path-fits}
 use Rattle.turn.specs.declared.Best.{Best}
 use Rattle.search.specs.DemandLaws.{refused-left, accepted-left, query-kept}
 use Rattle.search.specs.Demands.{QueryKept}

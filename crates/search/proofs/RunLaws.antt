@@ -17,15 +17,15 @@ use Rattle.network.specs.Potential.{potentialAt}
 use Rattle.network.specs.Query.{Query, potentials, source, sideOfTurn}
 use Rattle.nba.specs.State.{missing, noNode, State, half, undecided, openedBy}
 use Rattle.nba.specs.Search.{Chosen, none, node, isNone, leastBelow, candidate, rejected, arcsBelow, arcsOf, Reach, floorAfter, halfAfter, afterReach, reachOf, rejecting, ended, atBeginning, beginningHalf, atOnce, endState}
-use Rattle.nba.specs.ByMark.{lookByMark, lookEachByMark, openingByMark, takesByMark, turnByMark, afterTurnsByMark}
+use Rattle.nba.specs.Why.ByMark.{lookByMark, lookEachByMark, openingByMark, takesByMark, turnByMark, afterTurnsByMark}
 use Rattle.network.specs.Shift.{mag-add}
 use Rattle.network.specs.SoundLaws.{range-fine}
-use Rattle.nba.specs.StateLaws.{both-sides, half-own, half-theirs}
-use Rattle.nba.specs.LeastLaws.{LeastAt, Choice, no-node, least-node, choice-is}
-use Rattle.nba.specs.MeasureLaws.{shiftable}
-use Rattle.nba.specs.CodeLaws.{goes-on, stays-ended}
-use Rattle.nba.specs.ByMarkLaws.{same-end}
-use Rattle.nba.specs.EndLaws.{going-few}
+use Rattle.nba.specs.Why.StateLaws.{both-sides, half-own, half-theirs}
+use Rattle.nba.specs.Why.LeastLaws.{LeastAt, Choice, no-node, least-node, choice-is}
+use Rattle.nba.specs.Why.MeasureLaws.{shiftable}
+use Rattle.nba.specs.Why.CodeLaws.{goes-on, stays-ended}
+use Rattle.nba.specs.Why.ByMarkLaws.{same-end}
+use Rattle.nba.specs.Why.EndLaws.{going-few}
 use Rattle.turn.specs.declared.Candidate.the-variants.{Nothing, Node}
 use Rattle.turn.specs.declared.Progress.{Progress}
 use Rattle.turn.specs.Turn.{meant, Took, took, rejects, nodeTaken, bestOf, Ahead, Openable, Passed}

@@ -26,8 +26,8 @@ use Rattle.nba.specs.State.{missing, present, labelOf, stateOf}
 use Rattle.nba.specs.Search.{endState}
 use Rattle.nba.specs.Result.{figuresIn, answerAt, found, refusedOr, answerTo}
 use Rattle.nba.specs.Demands.{Joined, alone, next, path, withPattern, SameLengthAndVerdict}
-use Rattle.nba.specs.CodeLaws.{end-state-tabled}
-use Rattle.nba.specs.Theorems.{demand-2, demand-3-turns, demand-3-opened-end, demand-3-bound, demand-3-same, path-fits}
+use Rattle.nba.specs.Why.CodeLaws.{end-state-tabled}
+use Rattle.nba.specs.Why.Theorems.{demand-2, demand-3-turns, demand-3-opened-end, demand-3-bound, demand-3-same, path-fits}
 use Rattle.search.specs.Tables.{atFront}
 use Rattle.search.specs.Promise.{LentLists, lengths, shownPath, listsAfter, Left, left, searchLeaves, verdictLeaves, queried}
 use Rattle.search.specs.Demands.{IsRefusal, of-cause, Demand1, Demand2, Demand3, HasFigures, of-a-route, of-no-route, labelsIn, QueryKept}

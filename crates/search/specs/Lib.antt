@@ -4,3 +4,4 @@ pub mod Run
 pub mod Promise
 pub mod Demands
 pub mod DemandLaws
+pub mod Cases

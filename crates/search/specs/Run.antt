@@ -10,7 +10,7 @@ use Rattle.network.specs.Network.{Side, start, end, other, Network, mostNodes}
 use Rattle.network.specs.Query.{Query, query, sideOfTurn}
 use Rattle.nba.specs.State.{State, state}
 use Rattle.nba.specs.Search.{node, candidate, atBeginning}
-use Rattle.nba.specs.ByMark.{turnByMark, afterTurnsByMark}
+use Rattle.nba.specs.Why.ByMark.{turnByMark, afterTurnsByMark}
 use Rattle.turn.specs.declared.Best.{Best}
 use Rattle.turn.specs.declared.Progress.{Progress}
 use Rattle.turn.specs.Turn.{meant}

@@ -14,7 +14,7 @@ use Rattle.network.specs.declared.Figures.{Figures}
 use Rattle.network.specs.Network.{start, end, mostNodes}
 use Rattle.nba.specs.State.{noNode, undecided, openedBy, rejectedBy}
 use Rattle.nba.specs.Result.{trail, turnedBefore, pathThrough, countOf, figuresIn}
-use Rattle.nba.specs.TrailLaws.{length-turned-before}
+use Rattle.nba.specs.Why.TrailLaws.{length-turned-before}
 use Rattle.search.specs.Tables.{together, Countable, onward, NodesBelow, no-entries, one-node, atFront, PathRoom}
 
 -- ---- filling

@@ -6,7 +6,7 @@ ghost use lib.IntN.{pos, _+ℤ_, _-ℤ_};
 ghost use lib.ListN.{length};
 ghost use lib.Signed.{leZ, ltZ, mag};
 ghost use Rattle.network.specs.Network.{start, network};
-ghost use Rattle.nba.specs.ByMark.{labelByMark, lookEachByMark};
+ghost use Rattle.nba.specs.Why.ByMark.{labelByMark, lookEachByMark};
 ghost use Rattle.nba.specs.Search.{arcsOf, floorAfter, leastBelow};
 ghost use Rattle.turn.specs.Turn.{Ahead, Openable, Passed, bestOf, considered, meant, nodeTaken, reach, rejects, took};
 

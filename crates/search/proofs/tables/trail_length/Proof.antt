@@ -8,7 +8,7 @@ use native.Mathlib.Nat.{zero-add, sub-zero}
 use native.Mathlib.Omega.{arith}
 use borrow.Author.Needs.{needs}
 use Rattle.nba.specs.Result.{trail}
-use Rattle.nba.specs.TrailLaws.{trail-at-source}
+use Rattle.nba.specs.Why.TrailLaws.{trail-at-source}
 use Rattle.search.specs.Tables.{NodesBelow}
 use Rattle.search.specs.TablesLaws.{trail-next, first-below, others-below}
 use Rattle.search.proofs.tables.trail_length.Statement.{statement}

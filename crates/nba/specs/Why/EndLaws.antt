@@ -16,18 +16,18 @@ use Rattle.network.specs.Given.{Sound}
 use Rattle.network.specs.CaseSplit.{by-bool, by-lt, true≢false}
 use Rattle.nba.specs.State.{missing, present, State, half, labelOf}
 use Rattle.nba.specs.Search.{ended, atOnce, endState}
-use Rattle.nba.specs.ByMark.{afterTurnsByMark}
+use Rattle.nba.specs.Why.ByMark.{afterTurnsByMark}
 use Rattle.nba.specs.Result.{pathOf, figuresIn, answerAt}
 use Rattle.nba.specs.Demands.{WalkOfLength, Joined, NoneTwice}
-use Rattle.nba.specs.CodeLaws.{at-once-tabled, stays-ended, end-unsearched}
-use Rattle.nba.specs.BeginningLaws.{at-once-begun, begun-source}
-use Rattle.nba.specs.Trails.{Trail, at-source, HasTrail, trail-short}
-use Rattle.nba.specs.PathLaws.{path-joined, path-none-twice}
-use Rattle.nba.specs.ShortWalk.{walk-beside}
-use Rattle.nba.specs.Ways.{walk-inside}
-use Rattle.nba.specs.Invariant.{Orderly, Invariant}
-use Rattle.nba.specs.RunLaws.{ends, begun-orderly, orderly, invariant, ended-least}
-use Rattle.nba.specs.ByMarkLaws.{same-end}
+use Rattle.nba.specs.Why.CodeLaws.{at-once-tabled, stays-ended, end-unsearched}
+use Rattle.nba.specs.Why.BeginningLaws.{at-once-begun, begun-source}
+use Rattle.nba.specs.Why.Trails.{Trail, at-source, HasTrail, trail-short}
+use Rattle.nba.specs.Why.PathLaws.{path-joined, path-none-twice}
+use Rattle.nba.specs.Why.ShortWalk.{walk-beside}
+use Rattle.nba.specs.Why.Ways.{walk-inside}
+use Rattle.nba.specs.Why.Invariant.{Orderly, Invariant}
+use Rattle.nba.specs.Why.RunLaws.{ends, begun-orderly, orderly, invariant, ended-least}
+use Rattle.nba.specs.Why.ByMarkLaws.{same-end}
 
 -- ---- reading an answer
 -- a route answered: the best length is present, and is its length

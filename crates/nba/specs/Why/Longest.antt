@@ -33,10 +33,10 @@ use Rattle.nba.specs.State.{missing}
 use Rattle.nba.specs.Search.{endState}
 use Rattle.nba.specs.Result.{pathOf, figuresIn, found, answerTo}
 use Rattle.nba.specs.Demands.{mostLength, WalkOfLength}
-use Rattle.nba.specs.EndLaws.{route-answered, no-route-answered}
-use Rattle.nba.specs.PathLaws.{joined-walk}
-use Rattle.nba.specs.MeasureLaws.{shiftable}
-use Rattle.nba.specs.Theorems.{demand-2}
+use Rattle.nba.specs.Why.EndLaws.{route-answered, no-route-answered}
+use Rattle.nba.specs.Why.PathLaws.{joined-walk}
+use Rattle.nba.specs.Why.MeasureLaws.{shiftable}
+use Rattle.nba.specs.Why.Theorems.{demand-2}
 
 -- ---- a chain
 -- n numbers in rising order from the first

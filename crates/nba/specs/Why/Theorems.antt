@@ -25,23 +25,23 @@ use Rattle.network.specs.Shift.{up, low-mag, up-within}
 use Rattle.network.specs.PotentialLaws.{shift, shifted}
 use Rattle.nba.specs.State.{missing, present, State, half, labelOf, neighbourOf, stateOf, openedBy}
 use Rattle.nba.specs.Search.{keyOf, target, boundByTarget, rejected, afterTurns, atOnce, endState}
-use Rattle.nba.specs.ByMark.{afterTurnsByMark}
+use Rattle.nba.specs.Why.ByMark.{afterTurnsByMark}
 use Rattle.nba.specs.Result.{figuresIn, found}
 use Rattle.nba.specs.Demands.{WalkOfLength, Demand2Found, Demand3Turns, Demand3Opened, Demand3Bound, withPattern, SameLengthAndVerdict, both-routes, both-none, BelowTheMark}
-use Rattle.nba.specs.Fits.{EntriesFit, FiguresFit, PathFits}
-use Rattle.nba.specs.Measures.{potential}
-use Rattle.nba.specs.MeasureLaws.{opened-some, taken-opened, shiftable}
-use Rattle.nba.specs.LeastLaws.{key-lifted, key-shifted}
-use Rattle.nba.specs.CountLaws.{count-left}
-use Rattle.nba.specs.BeginningLaws.{at-once-begun, begun-undecided}
-use Rattle.nba.specs.Trails.{label-small}
-use Rattle.nba.specs.TrailLaws.{follows-inside}
-use Rattle.nba.specs.PathLaws.{Every, of-none, of-more, joined-is, joined-walk}
-use Rattle.nba.specs.ShortWalk.{walk-beside, none-twice-short, joined-inside, joined-some}
-use Rattle.nba.specs.Invariant.{Orderly, Invariant}
-use Rattle.nba.specs.RunLaws.{ends, turns-figure, orderly, invariant, turn-leaves, left-once}
-use Rattle.nba.specs.ByMarkLaws.{same-search}
-use Rattle.nba.specs.EndLaws.{RouteRead, route-read, no-route-read, route-answered, no-route-answered, at-end, end-state-ends, end-state-at-once, path-real, path-once}
+use Rattle.nba.specs.Why.Fits.{EntriesFit, FiguresFit, PathFits}
+use Rattle.nba.specs.Why.Measures.{potential}
+use Rattle.nba.specs.Why.MeasureLaws.{opened-some, taken-opened, shiftable}
+use Rattle.nba.specs.Why.LeastLaws.{key-lifted, key-shifted}
+use Rattle.nba.specs.Why.CountLaws.{count-left}
+use Rattle.nba.specs.Why.BeginningLaws.{at-once-begun, begun-undecided}
+use Rattle.nba.specs.Why.Trails.{label-small}
+use Rattle.nba.specs.Why.TrailLaws.{follows-inside}
+use Rattle.nba.specs.Why.PathLaws.{Every, of-none, of-more, joined-is, joined-walk}
+use Rattle.nba.specs.Why.ShortWalk.{walk-beside, none-twice-short, joined-inside, joined-some}
+use Rattle.nba.specs.Why.Invariant.{Orderly, Invariant}
+use Rattle.nba.specs.Why.RunLaws.{ends, turns-figure, orderly, invariant, turn-leaves, left-once}
+use Rattle.nba.specs.Why.ByMarkLaws.{same-search}
+use Rattle.nba.specs.Why.EndLaws.{RouteRead, route-read, no-route-read, route-answered, no-route-answered, at-end, end-state-ends, end-state-at-once, path-real, path-once}
 
 -- ---- demand 2
 module _ {q : Query} (sound : Sound q) where

@@ -17,9 +17,9 @@ use Rattle.network.specs.Given.{Sound}
 use Rattle.network.specs.CaseSplit.{by-eq}
 use Rattle.nba.specs.Result.{countOf}
 use Rattle.nba.specs.Demands.{Absent, from-none, from-more, NoneTwice, no-nodes, one-more, Joined, alone, next, mostLength}
-use Rattle.nba.specs.BeginningLaws.{all-alike}
-use Rattle.nba.specs.CountLaws.{count-all, count-set}
-use Rattle.nba.specs.PathLaws.{Every, of-none, of-more}
+use Rattle.nba.specs.Why.BeginningLaws.{all-alike}
+use Rattle.nba.specs.Why.CountLaws.{count-all, count-set}
+use Rattle.nba.specs.Why.PathLaws.{Every, of-none, of-more}
 
 -- ---- no more different nodes than there are
 -- n places, with a mark at each node of a list

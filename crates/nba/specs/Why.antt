@@ -1,0 +1,42 @@
+-- Why the demands are met, from the definitions up.
+--     ByMark                                  the search as the code makes it: the mark for what is missing, compared as a number
+--     Tabled, StateLaws, CodeLaws, CountLaws  tables, states put together over the side, scans of arcs, counts of states
+--     Measures, MeasureLaws, LeastLaws        the numbers that are compared, and the choice of step 3
+--     LookLaws, Moved, MovedLaws, TurnLaws    what a turn does, as one relation between two states
+--     UndecidedWalk, BeginningLaws            walks over undecided nodes, and the tables before the first turn
+--     Ways, Trails, Settled, Exact            the invariants, each with the proof that a turn keeps it
+--     Invariant, RunLaws                      all of them together, before every turn; the search ends
+--     TrailLaws, PathLaws, ShortWalk          trails and paths as lists, and walks without repetition
+--     ByMarkLaws                              the search by marks is the search
+--     EndLaws                                 the state at the end, start equal to end included
+--     Fits, Theorems, Accepted                the demands, of every sound query and of every accepted one
+--     Longest                                 the largest shortest length is reached
+pub mod ByMark
+pub mod Tabled
+pub mod StateLaws
+pub mod CodeLaws
+pub mod CountLaws
+pub mod Measures
+pub mod MeasureLaws
+pub mod LeastLaws
+pub mod LookLaws
+pub mod Moved
+pub mod MovedLaws
+pub mod TurnLaws
+pub mod UndecidedWalk
+pub mod BeginningLaws
+pub mod Ways
+pub mod Trails
+pub mod Settled
+pub mod Exact
+pub mod Invariant
+pub mod RunLaws
+pub mod TrailLaws
+pub mod PathLaws
+pub mod ShortWalk
+pub mod ByMarkLaws
+pub mod EndLaws
+pub mod Fits
+pub mod Theorems
+pub mod Accepted
+pub mod Longest

@@ -1,0 +1,63 @@
+-- Cases of what a query leaves, entry for entry, in lists that are one entry longer than needed: who writes beyond the node
+-- count or beyond the path, who shows a path where there is no route, and who writes and then refuses, leaves something else.
+-- One list, and one proof over it by computation. Assumes nothing.
+use mathlib.Core.Path.{_≡_, refl}
+use mathlib.Core.List.{List, [], _∷_, map}
+use Prim.Native.Nat.{ℕ}
+use lib.IntN.{pos}
+use lib.ListN.{replicate}
+use Rattle.network.specs.declared.Figures.{Figures}
+use Rattle.network.specs.declared.Cause.the-variants.{Pattern}
+use Rattle.network.specs.declared.Answer.the-variants.{Route, NoRoute, Refused}
+use Rattle.network.specs.Network.{network, isArc}
+use Rattle.network.specs.Potential.{keepsRule}
+use Rattle.network.specs.Query.{Query, query, sideOfTurn}
+use Rattle.network.specs.Refusal.{lowest, badNodeCount, badArcLists, badPotentialLists, badStartOrEnd, badEntry, badPattern, badRoom, badArc, outOfRange, badPotential, breaksRule, listRows, tripRows, mapRows, firstRefusal, queryVerdict}
+use Rattle.nba.specs.State.{missing, noNode}
+use Rattle.nba.specs.Search.{beginningHalf, atBeginning, lower, leastBelow, candidate, ended, rejected, arcsBelow, arcsOf, withLabel, withMeeting, lookAt, lookAtEach, halfAfter, afterReach, rejecting, opening, turn, turnUnlessEnded, afterTurns, atOnce, endState}
+use Rattle.nba.specs.Result.{trail, turnedBefore, pathThrough, pathOf, countOf, figuresIn, answerAt, found}
+use Rattle.search.specs.Tables.{atFront}
+use Rattle.search.specs.Promise.{lentLists, shownPath, listsAfter, Left, left, queried}
+
+-- a query on the lists below, and what it leaves
+pub record LeavingCase : Type 0 where
+  pub asked : Query
+  pub leaves : Left
+
+-- ---- words for the cases
+-- two nodes, one arc from 0 to 1 of weight 1, potentials 0: start, end and pattern
+abbrev trip : ℕ → ℕ → List ℕ → Left → LeavingCase
+trip s e p l = record { asked = query (network 2 (0 ∷ []) (1 ∷ []) (1 ∷ [])) (replicate 2 (pos 0)) (replicate 2 (pos 0)) s e p; leaves = l }
+
+-- turns, nodes opened by each side, nodes rejected
+abbrev counts : ℕ → ℕ → ℕ → ℕ → Figures
+counts t s e r = record { turns = t; «opened_by_start» = s; «opened_by_end» = e; rejected = r }
+
+-- what each list holds before, and a list with its first two entries overwritten
+abbrev old : List ℕ
+old = 7 ∷ 8 ∷ 9 ∷ []
+
+abbrev over : ℕ → ℕ → List ℕ
+over a b = a ∷ b ∷ 9 ∷ []
+
+-- ---- the cases
+abbrev leaving-cases : List LeavingCase
+leaving-cases =
+    -- a route over both nodes: the third entry of every list stays
+    trip 0 1 (0 ∷ []) (left (Route 1 2 (counts 2 1 0 1)) (lentLists (over 0 1) (over noNode 0) (over missing 0) (over noNode noNode) (over 1 2) (over 0 1)))
+    -- no route: the path list stays whole
+    ∷ trip 1 0 (0 ∷ []) (left (NoRoute (counts 1 1 0 0)) (lentLists (over missing 0) (over noNode noNode) (over 0 missing) (over noNode noNode) (over 0 1) old))
+    -- start equal to end: one path node, and the tables as at the beginning of a search
+    ∷ trip 1 1 (0 ∷ []) (left (Route 0 1 (counts 0 0 0 0)) (lentLists (over missing 0) (over noNode noNode) (over missing 0) (over noNode noNode) (over 0 0) (over 1 8)))
+    -- an empty pattern: nothing changes
+    ∷ trip 0 1 [] (left (Refused Pattern) (lentLists old old old old old old))
+    ∷ []
+
+-- ---- what is left
+unfoldable pub leaving : LeavingCase → LeavingCase
+leaving c = record { asked = c .asked; leaves = queried (c .asked) (lentLists old old old old old old) }
+
+-- ---- the proof, by computation
+pub cases-left : map leaving leaving-cases ≡ leaving-cases
+unfolding leaving queried listsAfter shownPath atFront found answerAt figuresIn countOf pathOf pathThrough turnedBefore trail endState atOnce afterTurns turnUnlessEnded turn opening rejecting afterReach halfAfter lookAtEach lookAt withMeeting withLabel arcsOf arcsBelow rejected ended candidate leastBelow lower atBeginning beginningHalf sideOfTurn isArc keepsRule queryVerdict firstRefusal mapRows tripRows listRows breaksRule badPotential outOfRange badArc badRoom badPattern badEntry badStartOrEnd badPotentialLists badArcLists badNodeCount lowest
+cases-left = refl
