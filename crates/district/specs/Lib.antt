@@ -10,6 +10,7 @@ pub mod StepCases
 pub mod FileLaws
 pub mod LinesLaws
 pub mod FileGivenLaws
+pub mod QueryRefusals
 pub mod OneAnswer
 pub mod Cases
 pub mod LinesCases
