@@ -13,6 +13,7 @@ pub mod LinesLaws
 pub mod FileGivenLaws
 pub mod SecondQueryLaws
 pub mod NeverEmpty
+pub mod QueryRefusals
 pub mod OneAnswer
 pub mod Cases
 pub mod LinesCases
