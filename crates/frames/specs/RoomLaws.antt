@@ -44,10 +44,13 @@ unfolding laid
 laid-before text room n e = rw e
 
 -- a part lent from a place on has the room that is left there
-pub lent-room : (room : List ℕ) (at n : ℕ) → at + n ≤ length room → n ≤ length (take (length room - at) (drop at room))
-lent-room room at n h =
+pub length-rest : (room : List ℕ) (at : ℕ) → length (take (length room - at) (drop at room)) ≡ length room - at
+length-rest room at =
     let short : length (drop at room) ≤ length room - at = rw length-drop (le-refl _) in
-    rw (take-all (length room - at) (drop at room) short, length-drop) (omega arith)
+    rw (take-all (length room - at) (drop at room) short, length-drop)
+
+pub lent-room : (room : List ℕ) (at n : ℕ) → at + n ≤ length room → n ≤ length (take (length room - at) (drop at room))
+lent-room room at n h = rw (length-rest room at) (omega arith)
 
 -- nothing is written yet
 pub underway-start : (text room : List ℕ) → length text ≤ length room → Underway text room room 0 text

@@ -54,6 +54,9 @@ pub fn files() -> [(&'static str, String); 12] {
 const LENT: usize = 8;
 const OLD: i64 = 77;
 
+/// The work lists, in the order of the columns of `check::rows`.
+const LISTS: [&str; 5] = ["start labels", "start neighbours", "end labels", "end neighbours", "states"];
+
 /// The text of P1 to P12, in this order.
 pub fn text(fault: Option<Fault>) -> String {
     files().iter().map(|(name, file)| case(name, file, fault)).collect()
@@ -69,7 +72,7 @@ fn case(name: &str, file: &str, fault: Option<Fault>) -> String {
     let tables = model::answer(&read.network, query, fault).tables;
     let rows = tables.map_or(Vec::new(), |tables| check::rows(&tables));
     let mut text = format!("{name}: {}\n{}", words(answer), list("path", &path));
-    for (at, title) in ["start labels", "start neighbours", "end labels", "end neighbours", "states"].iter().enumerate() {
+    for (at, title) in LISTS.iter().enumerate() {
         let entries: Vec<i64> = rows.iter().map(|row| row[at]).collect();
         text += &list(title, &entries);
     }

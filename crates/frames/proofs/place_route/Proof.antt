@@ -5,7 +5,7 @@ use Prim.Native.Nat.{ℕ, _+_, _*_, _≤_}
 use native.Mathlib.Omega.{arith}
 use lib.ListN.{length, length-append}
 use Rattle.frames.specs.AnswerLines.{lineOf, routeWidths, pathLine}
-use Rattle.frames.specs.RoomLaws.{laid-leaves, laid-after, lent-room, laid-placed, too-little-room}
+use Rattle.frames.specs.RoomLaws.{length-rest, laid-leaves, laid-after, laid-placed, too-little-room}
 use Rattle.frames.specs.LineSteps.{length-line, length-path}
 use borrow.Author.Needs.{needs}
 use Rattle.frames.proofs.place_route.Statement.{statement}
@@ -81,7 +81,8 @@ part-write-path-end c = search needs
 write-path-requires : tie.Need-write-path-requires
 write-path-requires c κs =
     let w = c .before .before .before .write-line in
-    lent-room (w .last .0) (w .result) _ (leaves (c .before))
+    let s = c .before .before .before .before .before .before .before .before .before .before .before in
+    rw length-rest (omega (arith, leaves (c .before), w .ensures .count-is, route-length s))
 
 add-result : tie.Need-add-result
 add-result c =
