@@ -1,7 +1,7 @@
 //! The comparison over many seeds: the program and the display entry against the
 //! independent answers, and the independent answers against the demands.
 
-use crate::display;
+use crate::display::{self, Entry};
 use crate::frames::{self, FileAnswer, Reader};
 use crate::laws;
 use crate::make;
@@ -16,9 +16,6 @@ use std::sync::Mutex;
 use std::thread;
 use std::time::Instant;
 
-/// The display entry keeps its lists on the stack.
-const STACK: usize = 64 << 20;
-
 /// A sixteenth of the files goes in in small pieces, a sixteenth is looked at live.
 const SOME: u64 = 16;
 
@@ -30,6 +27,8 @@ pub struct Plan {
     /// `None` compares the model with itself (only of use with a fault).
     pub routeline: Option<PathBuf>,
     pub with_routeline: bool,
+    /// The program that calls the display entry; `None` leaves the entry out.
+    pub display: Option<PathBuf>,
     pub with_display: bool,
     pub with_live: bool,
     pub faults: Vec<Fault>,
@@ -78,12 +77,22 @@ pub fn run(plan: &Plan) -> bool {
         ..Counts::default()
     });
     let found: Mutex<Option<Box<Difference>>> = Mutex::new(None);
-    let work = || loop {
+    let mut entries = Vec::new();
+    for _ in 0..plan.jobs.max(1) {
+        match plan.display.as_deref().map(Entry::start).transpose() {
+            Ok(entry) => entries.push(entry),
+            Err(what) => {
+                println!("{what}");
+                return false;
+            }
+        }
+    }
+    let work = |mut entry: Option<Entry>| loop {
         let seed = next.fetch_add(1, Ordering::SeqCst);
         if seed >= plan.seeds.end || stop.load(Ordering::SeqCst) {
             return;
         }
-        if let Err(difference) = one_seed(plan, seed, &counts) {
+        if let Err(difference) = one_seed(plan, seed, entry.as_mut(), &counts) {
             stop.store(true, Ordering::SeqCst);
             found.lock().unwrap().get_or_insert(difference);
         }
@@ -92,9 +101,8 @@ pub fn run(plan: &Plan) -> bool {
         }
     };
     thread::scope(|scope| {
-        for _ in 0..plan.jobs.max(1) {
-            let worker = thread::Builder::new().stack_size(STACK);
-            worker.spawn_scoped(scope, work).expect("a thread with a large stack");
+        for entry in entries {
+            scope.spawn(|| work(entry));
         }
     });
     let counts = counts.into_inner().unwrap();
@@ -102,7 +110,7 @@ pub fn run(plan: &Plan) -> bool {
     report(plan, &counts, found.as_deref(), began)
 }
 
-fn one_seed(plan: &Plan, seed: u64, counts: &Mutex<Counts>) -> Result<(), Box<Difference>> {
+fn one_seed(plan: &Plan, seed: u64, entry: Option<&mut Entry>, counts: &Mutex<Counts>) -> Result<(), Box<Difference>> {
     let made = make::file(seed);
     let expected = frames::answer_file(&made.bytes, Reader::Program, None);
     let differs = |what: String, expected: &[u8], got: Vec<u8>| {
@@ -120,10 +128,10 @@ fn one_seed(plan: &Plan, seed: u64, counts: &Mutex<Counts>) -> Result<(), Box<Di
             .map_err(|(what, got)| differs(what, &expected.output, got))?;
     }
     let mut rooms = 0;
-    if plan.with_display {
+    if let Some(entry) = entry {
         let shown = frames::answer_file(&made.bytes, Reader::Display, None);
         for size in display::rooms(&shown.output) {
-            display::compare(&made.bytes, &shown.output, size)
+            display::compare(entry, &made.bytes, &shown.output, size)
                 .map_err(|(what, got)| differs(format!("display: {what}"), &shown.output, got))?;
             rooms += 1;
         }
@@ -267,10 +275,10 @@ fn leave_behind(plan: &Plan, difference: &Difference) {
         Ok(()) => println!("left behind: {} (.expected, .got)", name("frames").display()),
         Err(error) => println!("the file could not be left behind: {error}"),
     }
-    let features = if display::LINKED { " --features display" } else { "" };
+    let display = plan.display.as_ref().map_or(String::new(), |path| format!(" --display {}", path.display()));
     let routeline = plan.routeline.as_ref().map_or(" --self".into(), |path| format!(" --routeline {}", path.display()));
     println!(
-        "to repeat: cargo run --release --manifest-path tests/independent/Cargo.toml{features} -- check{routeline} --seeds {seed}..{}",
+        "to repeat: cargo run --release --manifest-path tests/independent/Cargo.toml -- check{routeline}{display} --seeds {seed}..{}",
         seed + 1
     );
 }

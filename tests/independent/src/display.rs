@@ -1,5 +1,10 @@
-//! The C entry `display_answer` of `libdisplay.a`, behind the feature `display`,
-//! and the comparison of one file at several rooms.
+//! The C entry `display_answer` of `libdisplay.a`, called through the program
+//! `c/entry.c`, and the comparison of one file at several rooms.
+
+use std::io::{Read, Write};
+use std::ops::Range;
+use std::path::Path;
+use std::process::{Child, Command, Stdio};
 
 /// Guard bytes on either side of the room.
 pub const GUARD: usize = 64;
@@ -10,31 +15,50 @@ pub struct Shown {
     pub room: Vec<u8>,
 }
 
-/// Whether this program was built with the archive.
-pub const LINKED: bool = cfg!(feature = "display");
+/// A running program that calls the entry, one call after the other.
+pub struct Entry {
+    child: Child,
+}
 
-#[cfg(feature = "display")]
-mod entry {
-    use std::sync::Mutex;
+/// What a call returned, and the file and the lent memory after it.
+struct Called {
+    count: usize,
+    file: Vec<u8>,
+    memory: Vec<u8>,
+}
 
-    extern "C" {
-        fn display_answer(file: *const u8, file_len: usize, room: *mut u8, room_len: usize) -> usize;
+impl Entry {
+    pub fn start(program: &Path) -> Result<Entry, String> {
+        let child = Command::new(program).stdin(Stdio::piped()).stdout(Stdio::piped()).spawn();
+        Ok(Entry { child: child.map_err(|error| format!("cannot run {}: {error}", program.display()))? })
     }
 
-    /// Document 01 promises nothing of calls at the same time.
-    static ONE_AT_A_TIME: Mutex<()> = Mutex::new(());
-
-    pub fn call(file: &[u8], room: &mut [u8]) -> usize {
-        let _held = ONE_AT_A_TIME.lock();
-        // SAFETY: both pointers come from slices that live through the call, with their lengths.
-        unsafe { display_answer(file.as_ptr(), file.len(), room.as_mut_ptr(), room.len()) }
+    /// One call: a request and its reply, as `c/entry.c` has them.
+    fn call(&mut self, file: &[u8], memory: &[u8], room: Range<usize>) -> std::io::Result<Called> {
+        let input = self.child.stdin.as_mut().expect("standard input is piped");
+        let mut request = Vec::new();
+        for number in [file.len(), memory.len(), room.start, room.len()] {
+            request.extend((number as u64).to_le_bytes());
+        }
+        request.extend(file);
+        request.extend(memory);
+        input.write_all(&request)?;
+        let output = self.child.stdout.as_mut().expect("standard output is piped");
+        let mut count = [0; 8];
+        let mut called = Called { count: 0, file: vec![0; file.len()], memory: vec![0; memory.len()] };
+        output.read_exact(&mut count)?;
+        output.read_exact(&mut called.file)?;
+        output.read_exact(&mut called.memory)?;
+        called.count = u64::from_le_bytes(count) as usize;
+        Ok(called)
     }
 }
 
-#[cfg(not(feature = "display"))]
-mod entry {
-    pub fn call(_file: &[u8], _room: &mut [u8]) -> usize {
-        unreachable!("built without the feature `display`")
+impl Drop for Entry {
+    /// The end of its input ends the program.
+    fn drop(&mut self) {
+        drop(self.child.stdin.take());
+        let _ = self.child.wait();
     }
 }
 
@@ -45,21 +69,19 @@ pub fn old_byte(at: usize) -> u8 {
 }
 
 /// Calls the entry with a room of `size` bytes; tells whether it wrote outside.
-/// The caller provides a thread with a large stack.
-pub fn show(file: &[u8], size: usize) -> Result<Shown, String> {
-    let mut memory: Vec<u8> = (0..size + 2 * GUARD).map(old_byte).collect();
-    let before = file.to_vec();
-    let count = entry::call(file, &mut memory[GUARD..GUARD + size]);
-    if file != before {
+pub fn show(entry: &mut Entry, file: &[u8], size: usize) -> Result<Shown, String> {
+    let memory: Vec<u8> = (0..size + 2 * GUARD).map(old_byte).collect();
+    let called = entry.call(file, &memory, GUARD..GUARD + size).map_err(|error| format!("room of {size}: {error}"))?;
+    if called.file != file {
         return Err("the display entry changed the file's bytes".into());
     }
     let outside = (0..GUARD).chain(GUARD + size..memory.len());
     for at in outside {
-        if memory[at] != old_byte(at) {
+        if called.memory[at] != old_byte(at) {
             return Err(format!("room of {size}: a byte outside the room was changed"));
         }
     }
-    Ok(Shown { count, room: memory[GUARD..GUARD + size].to_vec() })
+    Ok(Shown { count: called.count, room: called.memory[GUARD..GUARD + size].to_vec() })
 }
 
 /// The rooms to try for these answer lines: ample, one more than needed, just
@@ -71,8 +93,8 @@ pub fn rooms(lines: &[u8]) -> [usize; 7] {
 }
 
 /// Compares one room with what document 01 says of it.
-pub fn compare(file: &[u8], expected: &[u8], size: usize) -> Result<(), (String, Vec<u8>)> {
-    let shown = show(file, size).map_err(|what| (what, Vec::new()))?;
+pub fn compare(entry: &mut Entry, file: &[u8], expected: &[u8], size: usize) -> Result<(), (String, Vec<u8>)> {
+    let shown = show(entry, file, size).map_err(|what| (what, Vec::new()))?;
     judge(&shown, expected, size).map_err(|what| (what, shown.room))
 }
 

@@ -2,6 +2,8 @@
 //! frames once more, written from the document alone and on purpose in another
 //! shape than the delivered code. Nothing here is fast; it is meant to be read.
 
+#![forbid(unsafe_code)]
+
 pub mod cases;
 pub mod check;
 mod damage;

@@ -2,7 +2,6 @@
 
 use independent::cases;
 use independent::check::{self, Plan};
-use independent::display;
 use independent::frames::{self, Reader};
 use independent::make;
 use independent::model::Fault;
@@ -19,6 +18,7 @@ independent check [flags]     compare routeline (and the display entry) with the
   --seeds A..B                the seeds (default 0..20000)
   --fresh N                   N fresh seeds, counted from the time
   --routeline PATH            the program (default target/bin/routeline under the repository root)
+  --display PATH              the program made of c/entry.c (default none: the display entry is left out)
   --fault NAME                a deliberate fault in the model, or `all`; exit code 0 if it is found
                               (README.md lists the names); ends once it was seen in 3 files
   --self                      compare the model with itself instead of with routeline
@@ -74,7 +74,8 @@ fn plan(arguments: &[String]) -> Result<Plan, String> {
         seeds: FIXED_SEEDS,
         routeline: Some(root().join("target/bin/routeline")),
         with_routeline: true,
-        with_display: display::LINKED,
+        display: None,
+        with_display: true,
         with_live: true,
         faults: Vec::new(),
         out: root().join("target/independent"),
@@ -91,6 +92,7 @@ fn plan(arguments: &[String]) -> Result<Plan, String> {
             "--seeds" => plan.seeds = range(value)?,
             "--fresh" => plan.seeds = fresh(number(value)?),
             "--routeline" => plan.routeline = Some(PathBuf::from(value)),
+            "--display" => plan.display = Some(PathBuf::from(value)),
             "--fault" => plan.faults = faults(value)?,
             "--without" => leave_out(&mut plan, value)?,
             "--out" => plan.out = PathBuf::from(value),
@@ -99,6 +101,7 @@ fn plan(arguments: &[String]) -> Result<Plan, String> {
         }
     }
     plan.routeline = plan.routeline.filter(|_| plan.with_routeline);
+    plan.display = plan.display.filter(|_| plan.with_display);
     if let Some(path) = &plan.routeline {
         if !path.exists() {
             return Err(format!("no program at {}; build it, or give --routeline or --self", path.display()));
