@@ -23,12 +23,13 @@ use Rattle.network.specs.SoundLaws.{range-fine}
 use Rattle.nba.specs.Why.StateLaws.{both-sides, half-own, half-theirs}
 use Rattle.nba.specs.Why.LeastLaws.{LeastAt, Choice, no-node, least-node, choice-is}
 use Rattle.nba.specs.Why.MeasureLaws.{shiftable}
-use Rattle.nba.specs.Why.CodeLaws.{goes-on, stays-ended}
+use Rattle.nba.specs.Why.CodeLaws.{goes-on-by-mark, stays-ended-by-mark}
 use Rattle.nba.specs.Why.ByMarkLaws.{same-end}
 use Rattle.nba.specs.Why.EndLaws.{going-few}
 use Rattle.turn.specs.declared.Candidate.the-variants.{Nothing, Node}
 use Rattle.turn.specs.declared.Progress.{Progress}
-use Rattle.turn.specs.Turn.{meant, Took, took, rejects, nodeTaken, bestOf, Ahead, Openable, Passed}
+use Rattle.turn.specs.Turn.{meant, Took, took, nodeTaken, bestOf, Ahead, Openable, Passed}
+use Rattle.turn.proofs.TurnLaws.{rejected-is-rejects}
 use Rattle.search.specs.Run.{standingOf, KnowsNext, Long, Floors, swappedOf, turnOf, Foreseen, Taking, Begun, TurnsMade, lastState, Remains, remains, remainsOf}
 
 -- the network with its arcs turned the way of a side
@@ -75,9 +76,9 @@ rejected-mark end = refl
 -- a turn of `nba` is a node taken on the side's own lists
 turn-is-taken : (q : Query) (s : Side) (st : State) (u : ℕ) (k : ℤ) → length (q .network .heads) ≡ arcCount (q .network) → candidate q s st ≡ node u k
     → turnByMark q s st ≡ afterTook q s st (takenBy q s st u)
-unfolding turnByMark nodeTaken rejected rejects rejecting openingByMark
+unfolding turnByMark nodeTaken rejecting openingByMark
 turn-is-taken q s st u k e c =
-    rw (c, rejected-mark s, arcs-of-sideways s (q .network) u e, look-sideways s (q .network))
+    rw (c, rejected-mark s, arcs-of-sideways s (q .network) u e, look-sideways s (q .network), ← rejected-is-rejects q s st u)
     (twice (λ a b. a ≡ afterTook q s st b) (rejected q s st u) (λ h. refl) (λ h. refl))
 
 -- ---- what `side_turn` leaves is the state after the turn
@@ -282,11 +283,11 @@ module _ {q : Query} (sound : Sound q) {i : ℕ} {st : State} {p : Progress} (wa
 
     -- and the state after the next one is the next
     pub underway-next : {after : State} {r : Progress} → after ≡ turnOf q i st → Foreseen q after r → TurnsMade q (i + 1) after r
-    underway-next t f = record { here = t ∙ rw (way .here) (sym (rw (add-one i) (goes-on q i going))); foreseen = f }
+    underway-next t f = record { here = t ∙ rw (way .here) (sym (rw (add-one i) (goes-on-by-mark q i going))); foreseen = f }
 
   -- a side has none: the search has ended, and this is its last state
   over : ended q st ≡ true → i ≤ q .network .nodes → remainsOf st ≡ remainsOf (lastState q)
-  over e h = ap remainsOf (way .here ∙ sym (stays-ended q i (q .network .nodes) (ap (ended q) (sym (way .here)) ∙ e) h))
+  over e h = ap remainsOf (way .here ∙ sym (stays-ended-by-mark q i (q .network .nodes) (ap (ended q) (sym (way .here)) ∙ e) h))
 
   pub over-at-start : p .own ≡ Nothing → i ≤ q .network .nodes → remainsOf st ≡ remainsOf (lastState q)
   unfolding ended
