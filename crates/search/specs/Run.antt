@@ -85,8 +85,8 @@ pub record TurnsMade (q : Query) (i : ℕ) (st : State) (p : Progress) : Type 0 
 abbrev pub lastState : Query → State
 lastState q = afterTurnsByMark q (q .network .nodes)
 
--- the outcome of a search: its tables, its best length and its meeting node, all of a state but the floors
-pub record Outcome : Type 0 where
+-- what remains of a search: its tables, its best length and its meeting node, all of a state but the floors
+pub record Remains : Type 0 where
   pub start-labels : List ℕ
   pub start-neighbours : List ℕ
   pub end-labels : List ℕ
@@ -95,8 +95,8 @@ pub record Outcome : Type 0 where
   pub best : ℕ
   pub meeting : ℕ
 
-abbrev pub outcome : List ℕ → List ℕ → List ℕ → List ℕ → List ℕ → Best → Outcome
-outcome sl sn el en states best = record {
+abbrev pub remains : List ℕ → List ℕ → List ℕ → List ℕ → List ℕ → Best → Remains
+remains sl sn el en states best = record {
   start-labels = sl;
   start-neighbours = sn;
   end-labels = el;
@@ -106,8 +106,8 @@ outcome sl sn el en states best = record {
   meeting = best .node;
 }
 
-abbrev pub outcomeOf : State → Outcome
-outcomeOf st = record {
+abbrev pub remainsOf : State → Remains
+remainsOf st = record {
   start-labels = st .start-half .labels;
   start-neighbours = st .start-half .neighbours;
   end-labels = st .end-half .labels;
