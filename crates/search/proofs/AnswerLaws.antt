@@ -23,7 +23,7 @@ use Rattle.nba.specs.Why.Theorems.{path-fits}
 use Rattle.turn.specs.declared.Best.{Best}
 use Rattle.search.specs.DemandLaws.{refused-left, accepted-left, query-kept}
 use Rattle.search.specs.Demands.{QueryKept}
-use Rattle.search.specs.Promise.{LentLists, lentLists, lengths, shownPath, listsAfter, left, searchLeaves}
+use Rattle.search.specs.Promise.{LentLists, lentLists, lengths, shownPath, listsAfter, SearchedInPlace, left, searchLeaves}
 use Rattle.search.specs.Run.{Filled, Long, Remains, remains, remainsOf}
 use Rattle.search.specs.Tables.{atFront, PathRoom}
 use Rattle.search.specs.TablesLaws.{nodes-by-entry}
@@ -110,14 +110,14 @@ pub cut-same : (n : ℕ) (l cut : List ℕ) → n ≤ length l → length cut �
 cut-same n l cut e h = simp (length-append, length-drop) (omega (arith, e, h, length-take-le n l e))
 
 -- the end state before what stood beyond it is what the search leaves
-pub cut-left : (q : Query) (before : LentLists) {r : Answer} {sl sn el en states path : List ℕ} → r ≡ found q → Filled (endState q) sl sn el en states
-    → path ≡ atFront (shownPath q (endState q)) (before .path) → let n = q .network .nodes in
-    left r (lentLists (sl ++ drop n (before .start-labels)) (sn ++ drop n (before .start-neighbours)) (el ++ drop n (before .end-labels)) (en ++ drop n (before .end-neighbours)) (states ++ drop n (before .states)) path)
+pub cut-left : (q : Query) (before : LentLists) {r : Answer} {after : LentLists} → SearchedInPlace q (before .path) r after → let n = q .network .nodes in
+    left r (lentLists (after .start-labels ++ drop n (before .start-labels)) (after .start-neighbours ++ drop n (before .start-neighbours)) (after .end-labels ++ drop n (before .end-labels)) (after .end-neighbours ++ drop n (before .end-neighbours)) (after .states ++ drop n (before .states)) (after .path))
     ≡ searchLeaves q before
 unfolding listsAfter atFront
-cut-left q before a f p =
+cut-left q before h =
     let t = end-state-tabled q in
-    rw (a, f .start-labels, f .start-neighbours, f .end-labels, f .end-neighbours, f .states, p, t .labels-long start, t .neighbours-long start, t .labels-long end, t .neighbours-long end, t .states-long)
+    let f = h .tables in
+    rw (h .answer, f .start-labels, f .start-neighbours, f .end-labels, f .end-neighbours, f .states, h .path-shown, t .labels-long start, t .neighbours-long start, t .labels-long end, t .neighbours-long end, t .states-long)
 
 -- ---- the whole query
 -- a refusal leaves the lists as they are

@@ -82,7 +82,7 @@ pattern-accepted q l p v fine = accepted-exactly-when (withPattern p q) l .1 (λ
     by (of-rule h) = none (of-rule h)
 
 -- the search itself answers a route or no route
-pub data Found : Answer → Type 0 where
+data Found : Answer → Type 0 where
   a-route : {l n : ℕ} {f : Figures} → Found (Route l n f)
   no-route : {f : Figures} → Found (NoRoute f)
 

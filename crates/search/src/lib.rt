@@ -13,12 +13,9 @@ ghost use Rattle.network.specs.Given.{Sound};
 ghost use Rattle.network.specs.Network.{network};
 ghost use Rattle.network.specs.Query.{query as asked};
 ghost use Rattle.network.specs.Refusal.{queryVerdict};
-ghost use Rattle.nba.specs.Result.{found};
-ghost use Rattle.nba.specs.Search.{endState};
 ghost use Rattle.search.specs.Demands.{QueryKept};
-ghost use Rattle.search.specs.Promise.{left, lengths, lentLists, searchLeaves, shownPath};
-ghost use Rattle.search.specs.Run.{Filled, Long};
-ghost use Rattle.search.specs.Tables.{atFront};
+ghost use Rattle.search.specs.Promise.{SearchedInPlace, left, lengths, lentLists, searchLeaves};
+ghost use Rattle.search.specs.Run.{Long};
 
 // The search of an accepted query, on lists with exactly one entry a node and a path list with room for as many.
 fn searched(
@@ -40,9 +37,11 @@ fn searched(
     requires { ⌜ Sound (asked (network (length (now states)) (now tails) (now heads) (now weights)) (now forward) (now backward) start end (now pattern)) ⌝ }
     requires { ⌜ Long (length (now states)) (now «start_labels») (now «start_neighbours») (now «end_labels») (now «end_neighbours») (now states) ⌝ }
     requires { ⌜ length (now states) ≤ length (now path) ⌝ }
-    ensures answer { λ r. ⌜ r ≡ found (asked (network (length (now (states .entry))) (now (tails .entry)) (now (heads .entry)) (now (weights .entry))) (now (forward .entry)) (now (backward .entry)) start end (now (pattern .entry))) ⌝ }
-    ensures tables { λ _. ⌜ Filled (endState (asked (network (length (now (states .entry))) (now (tails .entry)) (now (heads .entry)) (now (weights .entry))) (now (forward .entry)) (now (backward .entry)) start end (now (pattern .entry)))) (now («start_labels» .exit)) (now («start_neighbours» .exit)) (now («end_labels» .exit)) (now («end_neighbours» .exit)) (now (states .exit)) ⌝ }
-    ensures path { λ _. ⌜ now (path .exit) ≡ atFront (shownPath (asked (network (length (now (states .entry))) (now (tails .entry)) (now (heads .entry)) (now (weights .entry))) (now (forward .entry)) (now (backward .entry)) start end (now (pattern .entry))) (endState (asked (network (length (now (states .entry))) (now (tails .entry)) (now (heads .entry)) (now (weights .entry))) (now (forward .entry)) (now (backward .entry)) start end (now (pattern .entry))))) (now (path .entry)) ⌝ }
+    ensures { λ r. ⌜ SearchedInPlace
+        (asked (network (length (now (states .entry))) (now (tails .entry)) (now (heads .entry)) (now (weights .entry))) (now (forward .entry)) (now (backward .entry)) start end (now (pattern .entry)))
+        (now (path .entry))
+        r
+        (lentLists (now («start_labels» .exit)) (now («start_neighbours» .exit)) (now («end_labels» .exit)) (now («end_neighbours» .exit)) (now (states .exit)) (now (path .exit))) ⌝ }
 {
     let best = run::find(
         tails,

@@ -85,7 +85,7 @@ returns : tie.Need-returns
 returns c =
     let s = c .before .before .before .before .before .before .before .before .before .before .before .before .before .before .before .before .before .before .before .before .before .before .before .before .before .before .before .before .before in
     let l = length-take-le (s .args .nodes) (s .args .states .now) (enough s .for-states) in
-    cut-left (asked s) (entry s) {sl = (c .before .before .before .before .before .before .before .before .before .before .before .before .searched .last .1 .1 .1 .1 .1 .1 .1 .1 .0)} {sn = (c .before .before .before .before .before .before .before .before .before .before .before .before .searched .last .1 .1 .1 .1 .1 .1 .1 .1 .1 .0)} {el = (c .before .before .before .before .before .before .before .before .before .before .before .before .searched .last .1 .1 .1 .1 .1 .1 .1 .1 .1 .1 .0)} {en = (c .before .before .before .before .before .before .before .before .before .before .before .before .searched .last .1 .1 .1 .1 .1 .1 .1 .1 .1 .1 .1 .0)} {states = (c .before .before .before .before .before .before .before .before .before .before .before .before .searched .last .1 .1 .1 .1 .1 .1 .1 .1 .1 .1 .1 .1 .0)} (rw l at (c .before .before .before .before .before .before .before .before .before .before .before .before .searched .ensures .0)) (rw l at (c .before .before .before .before .before .before .before .before .before .before .before .before .searched .ensures .1 .0)) (rw l at (c .before .before .before .before .before .before .before .before .before .before .before .before .searched .ensures .1 .1))
+    cut-left (asked s) (entry s) (rw l at (c .before .before .before .before .before .before .before .before .before .before .before .before .searched .ensures))
 
 pub search-accepted-spec : {M : Type 1} → statement M
 search-accepted-spec =

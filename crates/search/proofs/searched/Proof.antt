@@ -30,7 +30,11 @@ returns : tie.Need-returns
 returns c =
     let s = c .before .before .before .before .before .before .before .before .before .before .before .before .before .before .before .before .before .before .before .before .before .before .before .before .before .before .before .before .before .pre .0 in
     let t = c .before .before .before .before .before .before .before .before .before .before .before .before .before .find .ensures in
-    (answers-none s t (c .before .count-states .ensures) (c .if1 .taken), (filled-at-end s t, shows-none s t (c .if1 .taken) _))
+    record {
+      answer = answers-none s t (c .before .count-states .ensures) (c .if1 .taken);
+      tables = filled-at-end s t;
+      path-shown = shows-none s t (c .if1 .taken) _;
+    }
 
 write-path-requires : tie.Need-write-path-requires
 write-path-requires c κs = path-room (c .before .before .before .before .before .before .before .before .before .before .before .before .before .before .before .before .before .before .before .before .before .before .before .before .before .before .before .before .before .before .before .before .pre .0) (c .before .before .before .before .before .before .before .before .before .before .before .before .before .before .before .before .find .ensures) (c .before .before .before .if1 .left) (c .before .before .before .before .before .before .before .before .before .before .before .before .before .before .before .before .before .before .before .before .before .before .before .before .before .before .before .before .before .before .before .before .pre .1 .1)
@@ -56,10 +60,12 @@ same-length-11 c = c .before .before .write-path .kept .0
 returns-2 : tie.Need-returns-2
 returns-2 c =
     let s = c .before .before .before .before .before .before .before .before .before .before .before .before .before .before .before .before .before .before .before .before .before .before .before .before .before .before .before .before .before .before .before .before .before .before .before .pre .0 in
-    let t = c .before .before .before .before .before .before .before .before .before .before .before .before .before .before .before .before .before .before .before .find .ensures in (
-      answers-route s t (c .before .before .before .before .before .before .before .count-states .ensures) (c .before .before .before .before .before .before .if1 .left) (c .before .before .write-path .ensures .0),
-      (filled-at-end s t, shows-route s t (c .before .before .before .before .before .before .if1 .left) _ (c .before .before .write-path .ensures .1)),
-    )
+    let t = c .before .before .before .before .before .before .before .before .before .before .before .before .before .before .before .before .before .before .before .find .ensures in
+    record {
+      answer = answers-route s t (c .before .before .before .before .before .before .before .count-states .ensures) (c .before .before .before .before .before .before .if1 .left) (c .before .before .write-path .ensures .0);
+      tables = filled-at-end s t;
+      path-shown = shows-route s t (c .before .before .before .before .before .before .if1 .left) _ (c .before .before .write-path .ensures .1);
+    }
 
 pub searched-spec : {M : Type 1} → statement M
 searched-spec =
