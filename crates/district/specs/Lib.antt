@@ -11,6 +11,7 @@ pub mod FileLaws
 pub mod LinesLaws
 pub mod FileGivenLaws
 pub mod QueryRefusals
+pub mod LastPrinted
 pub mod OneAnswer
 pub mod Cases
 pub mod LinesCases
