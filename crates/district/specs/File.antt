@@ -1,6 +1,7 @@
 -- A district file, from its bytes to the bytes of its answer (document 01, "District frames"): which frame may stand where,
 -- what each adds, which refusal comes first, and what the end of input means. The file is read one byte at a time, so it does
--- not matter in what pieces the bytes come. Definitions only; their laws are in FileLaws. Assumes nothing.
+-- not matter in what pieces the bytes come. Lines has the same file in a shorter reading, line by line, and LinesLaws proves that
+-- both print the same. Definitions only; their laws are in FileLaws. Assumes nothing.
 use mathlib.Core.Bool.{Bool, true, false, cond, not, _&&_, _||_}
 use mathlib.Core.List.{List, [], _∷_, _++_, map}
 use Prim.Native.Nat.{ℕ, _+_, _-_}

@@ -1,6 +1,7 @@
 -- "Given exactly when" for the refusals of a file (document 01, the table's numbers 1, 2, 10 and 11, and "District frames"),
 -- each with its line. Lines are counted by what stands before them: after i line feeds stands the line with number first + i.
--- Definitions only; FileGivenLaws proves them of a file's outcome, both ways. Assumes nothing.
+-- Definitions only; FileGivenLaws proves them of a file's outcome, both ways, and of what it prints; QueryRefusals tells the
+-- refusals of queries from them. Assumes nothing.
 use mathlib.Core.Path.{_≡_}
 use mathlib.Core.Logic.{_≢_}
 use mathlib.Core.Bool.{Bool, true, false}
@@ -108,6 +109,13 @@ pub record MisplacedAt (single : Bool) (first : ℕ) (bytes : List ℕ) (n : ℕ
   pub comes : ComesTo single first bytes n
   pub misplaced : Misplaced single bytes n (comes .before)
 
+-- ---- no refusal
+-- each line is taken, the last one has its line feed, and no frame is owed
+pub record TakenWhole (single : Bool) (first : ℕ) (bytes : List ℕ) : Type 0 where
+  pub taken : (i : ℕ) → i < lineCount bytes → TakenAfter single first bytes i
+  pub ended : linesOf bytes .rest ≡ []
+  pub none-owed : owing (toldAfter bytes (lineCount bytes)) ≡ false
+
 -- ---- the table
 -- what document 01 says of a refusal of a file whose first line has this number; 3 to 9 are refusals of queries and end no file
 abbrev pub FileGiven : Bool → ℕ → List ℕ → Cause → Type 0
@@ -122,3 +130,9 @@ FileGiven single first bytes Room = ⊥
 FileGiven single first bytes (BadArc a) = ⊥
 FileGiven single first bytes (BadPotential v) = ⊥
 FileGiven single first bytes (Inconsistent a) = ⊥
+
+-- the numbers of a query's own refusals in a file: 4, 5, 7, 8 or 9
+pub record QueryNumber (n : ℕ) : Type 0 where
+  pub least : 4 ≤ n
+  pub most : n ≤ 9
+  pub not-room : n ≢ 6

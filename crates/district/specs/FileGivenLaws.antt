@@ -20,7 +20,7 @@ use Rattle.network.specs.declared.Answer.the-variants.{Refused as Refusal}
 use Rattle.network.specs.Answer.{placeOf}
 use Rattle.network.specs.CaseSplit.{by-bool, by-eq, by-lt, true≢false}
 use Rattle.network.specs.Refusal.{firstRefusal}
-use Rattle.network.specs.RefusalLaws.{refused≢accepted, firstRefusal-one, rows-accepted, FirstRow, first-row, row-first}
+use Rattle.network.specs.RefusalLaws.{refused≢accepted, firstRefusal-one, rows-accepted, given-accepted, FirstRow, first-row, row-first}
 use Rattle.frames.specs.declared.Frame.{Frame}
 use Rattle.frames.specs.declared.Frame.the-variants.{Size, Arc, TwoWay, Potentials, Query as QueryFrame, Unsound}
 use Rattle.frames.specs.Frame.{frameOf}
@@ -28,7 +28,7 @@ use Rattle.frames.specs.AnswerLines.{answerLines}
 use Rattle.district.specs.File.{Told, nothingTold, lastLine, wrongCause, sizeOwed, owing, answerFrom}
 use Rattle.district.specs.Lines.{linesOf, mayStand, badNodes, badArcs, sizeVerdict, frameVerdict, endVerdict, toldWith, Outcome, thenOn, readLines, outcomeOf}
 use Rattle.district.specs.LinesLaws.{file-by-lines}
-use Rattle.district.specs.FileGiven.{lineCount, frameAfter, toldByLines, toldAfter, printedByLines, printedAfter, TakenAfter, ComesTo, FirstSize, NoFrame, unsound, cut, whole, part, Misplaced, last, not-there, missing, FileGiven}
+use Rattle.district.specs.FileGiven.{lineCount, frameAfter, toldByLines, toldAfter, printedByLines, printedAfter, TakenAfter, ComesTo, FirstSize, NoFrame, unsound, cut, whole, part, Misplaced, last, not-there, missing, TakenWhole, FileGiven}
 
 same-cause : {c d : Cause} → Refused c ≡ Refused d → c ≡ d
 same-cause {c} {d} e = cc
@@ -183,7 +183,7 @@ module _ (single : Bool) (first : ℕ) (bytes : List ℕ) where
   pub taken-accepted : (i : ℕ) → TakenAfter single first bytes i → frameVerdict single (first + i) (toldAfter bytes i) (frameAfter bytes i) ≡ Accepted
   taken-accepted i t = verdict-counts single _ _ _ (t .numbered) (t .may-stand) ∙ t .good-counts
 
-  told-next : (i : ℕ) → i < lineCount bytes → toldAfter bytes (suc i) ≡ toldWith (toldAfter bytes i) (frameAfter bytes i)
+  pub told-next : (i : ℕ) → i < lineCount bytes → toldAfter bytes (suc i) ≡ toldWith (toldAfter bytes i) (frameAfter bytes i)
   told-next i h = rw (take-suc (linesOf bytes .whole) i [] h) (told-last nothingTold (take i (linesOf bytes .whole)) (getD (linesOf bytes .whole) i []))
 
   -- so a 01 is owed at the first line only
@@ -292,12 +292,12 @@ module _ (single : Bool) (first : ℕ) (bytes : List ℕ) where
       }
 
   -- 10
-  unsound-row : {n : ℕ} (k : ComesTo single first bytes n) → n ≢ lastLine → NoFrame bytes (k .before) → getD rows (k .before) Accepted ≡ Refused (UnsoundLine n)
+  unwhole-row : {n : ℕ} (k : ComesTo single first bytes n) → n ≢ lastLine → NoFrame bytes (k .before) → getD rows (k .before) Accepted ≡ Refused (UnsoundLine n)
   unfolding mayStand
-  unsound-row {n} k l (unsound h e) =
+  unwhole-row {n} k l (unsound h e) =
       let stands : mayStand single (toldAfter bytes (k .before)) (frameAfter bytes (k .before)) ≡ false = rw e in
       row-line (k .before) h ∙ (verdict-wrong single _ _ _ (λ q. l (k .its-number ∙ q)) stands ∙ rw (e, k .its-number))
-  unsound-row {n} k l (cut h r) =
+  unwhole-row {n} k l (cut h r) =
       row-end (k .before) h ∙ (cut-verdict single _ _ _ r ∙ (verdict-wrong single _ _ Unsound (λ q. l (k .its-number ∙ q)) refl ∙ rw (k .its-number)))
 
   -- 11
@@ -316,7 +316,7 @@ module _ (single : Bool) (first : ℕ) (bytes : List ℕ) where
   unfolding firstRefusal
   given-row NodeCount g = size-row NodeCount (g .size) refl (rw (g .bad))
   given-row ArcLists g = size-row ArcLists (g .size) refl (rw (g .good, g .bad))
-  given-row (UnsoundLine n) g = come-row (UnsoundLine n) (g .comes) refl (unsound-row (g .comes) (g .numbered) (g .no-frame))
+  given-row (UnsoundLine n) g = come-row (UnsoundLine n) (g .comes) refl (unwhole-row (g .comes) (g .numbered) (g .no-frame))
   given-row (MisplacedLine n) g = come-row (MisplacedLine n) (g .comes) refl (misplaced-row (g .comes) (g .misplaced))
   given-row PotentialLists g = absurd g
   given-row StartOrEnd g = absurd g
@@ -341,6 +341,34 @@ module _ (single : Bool) (first : ℕ) (bytes : List ℕ) where
       go : ((c : Cause) → FileGiven single first bytes c → ⊥) → (v : Verdict) → outcomeOf single first bytes .verdict ≡ v → outcomeOf single first bytes .verdict ≡ Accepted
       go none Accepted e = e
       go none (Refused c) e = absurd (none c (refused-given c e))
+
+  -- that is, exactly when each line is taken, the last one has its line feed, and no frame is owed
+  accepted-end : (rest : List ℕ) → linesOf bytes .rest ≡ rest → endVerdict single (first + lineCount bytes) (toldAfter bytes (lineCount bytes)) rest ≡ Accepted
+      → (linesOf bytes .rest ≡ []) × (owing (toldAfter bytes (lineCount bytes)) ≡ false)
+  unfolding endVerdict mayStand
+  accepted-end [] r e = (r, given-accepted _ _ e)
+  accepted-end (b ∷ rest) r e =
+      by-eq (first + lineCount bytes) lastLine (λ l. absurd (refused≢accepted (sym (verdict-last single _ _ _ l) ∙ e)))
+      (λ l. absurd (refused≢accepted (sym (verdict-wrong single _ _ Unsound l refl) ∙ e)))
+
+  accepted-whole : outcomeOf single first bytes .verdict ≡ Accepted → TakenWhole single first bytes
+  accepted-whole e =
+      let all : (i : ℕ) → getD rows i Accepted ≡ Accepted = rows-accepted rows (sym verdict-is ∙ e) in
+      let end : (linesOf bytes .rest ≡ []) × (owing (toldAfter bytes (lineCount bytes)) ≡ false) = accepted-end (linesOf bytes .rest) refl (sym (row-end (lineCount bytes) refl) ∙ all (lineCount bytes)) in
+      record { taken = λ i h. accepted-taken i (sym (row-line i h) ∙ all i); ended = end .0; none-owed = end .1 }
+
+  whole-row : TakenWhole single first bytes → (i : ℕ) → getD rows i Accepted ≡ Accepted
+  unfolding endVerdict
+  whole-row s i =
+      by-lt i (lineCount bytes) (λ h. row-line i h ∙ taken-accepted i (s .taken i h))
+      (λ h. by-eq i (lineCount bytes) (λ q. row-end i q ∙ rw (s .ended, q, s .none-owed))
+      (λ q. verdict-none single first nothingTold (linesOf bytes .whole) (linesOf bytes .rest) i (omega arith)))
+
+  whole-accepted : TakenWhole single first bytes → outcomeOf single first bytes .verdict ≡ Accepted
+  whole-accepted s = file-accepted-exactly-when .1 (λ c g. let r : FirstRow rows c = given-row c g .row in refused≢accepted (sym (r .refuses) ∙ whole-row s (r .index)))
+
+  pub file-taken-whole : (outcomeOf single first bytes .verdict ≡ Accepted) ↔ TakenWhole single first bytes
+  file-taken-whole = (accepted-whole, whole-accepted)
 
   -- no file has two refusals
   pub file-refused-once : (c d : Cause) → FileGiven single first bytes c → FileGiven single first bytes d → c ≡ d

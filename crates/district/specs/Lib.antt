@@ -11,6 +11,7 @@ pub mod StepCases
 pub mod FileLaws
 pub mod LinesLaws
 pub mod FileGivenLaws
+pub mod QueryRefusals
 pub mod SecondQueryLaws
 pub mod NeverEmpty
 pub mod OneAnswer

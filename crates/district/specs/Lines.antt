@@ -2,7 +2,7 @@
 -- judged in turn by its number and by what the lines before it told, and then the end of input. This is the short reading of a
 -- file; File reads the same file byte by byte, as the code does, and LinesLaws proves that the two print the same for all bytes.
 -- Definitions only. Assumes nothing.
-use mathlib.Core.Bool.{Bool, false, cond, not, _&&_, _||_}
+use mathlib.Core.Bool.{Bool, true, false, cond, not, _&&_, _||_}
 use mathlib.Core.List.{List, [], _∷_, _++_}
 use Prim.Native.Nat.{ℕ, _+_, _-_}
 use lib.Dec.{eqb, ltb, leb}
@@ -37,6 +37,16 @@ linesOf [] = record { whole = []; rest = [] }
 linesOf (b ∷ bytes) =
     let after = linesOf bytes in
     cond (eqb b lineFeed) (record { whole = [] ∷ after .whole; rest = after .rest }) (beganWith (b ∷ []) (after .whole) (after .rest))
+
+-- lines put together again, each whole one with its line feed
+unfoldable pub joined : List (List ℕ) → List ℕ → List ℕ
+joined [] rest = rest
+joined (line ∷ more) rest = line ++ (lineFeed ∷ joined more rest)
+
+-- whether there is no line feed among some bytes
+unfoldable pub withoutFeed : List ℕ → Bool
+withoutFeed [] = true
+withoutFeed (b ∷ bytes) = not (eqb b lineFeed) && withoutFeed bytes
 
 -- ---- which frame may stand where
 -- the arcs that are still owed

@@ -1,14 +1,14 @@
--- A file read byte by byte prints what its lines print, for all bytes. The argument: within a line the byte reading holds what
--- the line has so far, and what it still prints is what the rest of the file prints by lines with the held bytes ahead of it; a
--- line feed judges the line as the frame's verdict does; and a line that is broken for its length is no sound frame, however it
--- goes on. Assumes nothing.
+-- The lines of a file are its bytes parted at the line feeds, and a file read byte by byte prints what its lines print, for all
+-- bytes. The argument for the second: within a line the byte reading holds what the line has so far, and what it still prints is
+-- what the rest of the file prints by lines with the held bytes ahead of it; a line feed judges the line as the frame's verdict
+-- does; and a line that is broken for its length is no sound frame, however it goes on. Assumes nothing.
 use mathlib.Core.Path.{_≡_, refl, sym, ap, _∙_}
 use mathlib.Core.Bool.{Bool, true, false, not, _&&_}
 use mathlib.Core.List.{List, [], _∷_, _++_, append-nil, append-assoc}
-use Prim.Native.Nat.{ℕ, _+_, _≤_, _<_}
+use Prim.Native.Nat.{ℕ, zero, suc, _+_, _≤_, _<_}
 use native.Mathlib.Omega.{arith}
 use lib.Dec.{eqb, ltb, leb}
-use lib.ListN.{length, length-append}
+use lib.ListN.{length, getD, length-append}
 use borrow.Author.Tests.{eqb-true, ne-eqb, ltb-true, ltb-false, lt-leb}
 use Rattle.network.specs.declared.Cause.{Cause}
 use Rattle.network.specs.declared.Cause.the-variants.{MisplacedLine}
@@ -24,7 +24,49 @@ use Rattle.frames.specs.FrameCases.{too-long}
 use Rattle.frames.specs.AnswerLines.{lineFeed, answerLines}
 use Rattle.district.specs.File.{Told, File, Step, nothingTold, lastLine, refused, taken, wrongCause, sizeOwed, arcsOwed, potentialsOwed, takeSize, takeArcs, takePotentials, takeQuery, takeFrame, takeLine, brokenLine, takeByte, owing, endOfInput, answerFrom}
 use Rattle.district.specs.FileLaws.{restOf, rest-whole, rest-none, rest-byte}
-use Rattle.district.specs.Lines.{Lines, beganWith, linesOf, owedArcs, mayStand, badNodes, badArcs, sizeVerdict, frameVerdict, endVerdict, toldWith, printedFor, Outcome, thenOn, readLines, outcomeOf, refusalLine, printedOf}
+use Rattle.district.specs.Lines.{Lines, beganWith, linesOf, joined, withoutFeed, owedArcs, mayStand, badNodes, badArcs, sizeVerdict, frameVerdict, endVerdict, toldWith, printedFor, Outcome, thenOn, readLines, outcomeOf, refusalLine, printedOf}
+
+-- ---- the lines of a file
+-- lines put together again are the file
+pub lines-joined : (bytes : List ℕ) → joined (linesOf bytes .whole) (linesOf bytes .rest) ≡ bytes
+unfolding linesOf joined
+lines-joined [] = refl
+lines-joined (b ∷ bytes) =
+    by-bool (eqb b lineFeed) (λ e. rw (e, lines-joined bytes, eqb-true b lineFeed e))
+    (λ e. rw e (began (linesOf bytes .whole) (linesOf bytes .rest) ∙ ap (λ (l : List ℕ). b ∷ l) (lines-joined bytes)))
+  where
+    began : (whole : List (List ℕ)) (rest : List ℕ) → joined (beganWith (b ∷ []) whole rest .whole) (beganWith (b ∷ []) whole rest .rest) ≡ b ∷ joined whole rest
+    began [] rest = refl
+    began (line ∷ more) rest = refl
+
+-- no line has a line feed in it
+record FeedsBetween (whole : List (List ℕ)) (rest : List ℕ) : Type 0 where
+  pub in-whole : (i : ℕ) → withoutFeed (getD whole i []) ≡ true
+  pub in-rest : withoutFeed rest ≡ true
+
+feed-between : (whole : List (List ℕ)) (rest : List ℕ) → FeedsBetween whole rest → FeedsBetween ([] ∷ whole) rest
+unfolding withoutFeed
+feed-between whole rest p = record { in-whole = λ i. elim i [ zero ↦ refl | suc j ↦ p .in-whole j ]; in-rest = p .in-rest }
+
+began-between : (b : ℕ) → eqb b lineFeed ≡ false → (whole : List (List ℕ)) (rest : List ℕ) → FeedsBetween whole rest
+    → FeedsBetween (beganWith (b ∷ []) whole rest .whole) (beganWith (b ∷ []) whole rest .rest)
+unfolding withoutFeed
+began-between b e [] rest p = record { in-whole = λ i. refl; in-rest = rw e (p .in-rest) }
+began-between b e (line ∷ more) rest p =
+    record { in-whole = λ i. elim i [ zero ↦ rw e (p .in-whole 0) | suc j ↦ p .in-whole (suc j) ]; in-rest = p .in-rest }
+
+feeds-between : (bytes : List ℕ) → FeedsBetween (linesOf bytes .whole) (linesOf bytes .rest)
+unfolding linesOf withoutFeed
+feeds-between [] = record { in-whole = λ i. refl; in-rest = refl }
+feeds-between (b ∷ bytes) =
+    by-bool (eqb b lineFeed) (λ e. rw e (feed-between (linesOf bytes .whole) (linesOf bytes .rest) (feeds-between bytes)))
+    (λ e. rw e (began-between b e (linesOf bytes .whole) (linesOf bytes .rest) (feeds-between bytes)))
+
+pub lines-without-feed : (bytes : List ℕ) (i : ℕ) → withoutFeed (getD (linesOf bytes .whole) i []) ≡ true
+lines-without-feed bytes i = feeds-between bytes .in-whole i
+
+pub rest-without-feed : (bytes : List ℕ) → withoutFeed (linesOf bytes .rest) ≡ true
+rest-without-feed bytes = feeds-between bytes .in-rest
 
 -- ---- after a refusal
 -- a file that a refusal has ended
