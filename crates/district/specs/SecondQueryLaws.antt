@@ -26,7 +26,7 @@ use Rattle.district.specs.Lines.{Lines, beganWith, linesOf, sizeRead, ar
 use Rattle.district.specs.LinesLaws.{file-by-lines}
 use Rattle.district.specs.FileGivenLaws.{accepted-taken, taken-accepted}
 use Rattle.district.specs.FileGiven.{lineCount, toldByLines}
-use Rattle.district.specs.SecondQuery.{isQuery, SecondQueryAt, firstLines}
+use Rattle.district.specs.SecondQuery.{isQuery, AsksAgain, SecondQueryAt, RefusedBefore, firstLines}
 
 -- ---- one line
 module _ (n : ℕ) (t : Told) where
@@ -324,13 +324,18 @@ module _ (bytes : List ℕ) where
   unfolding outcomeOf
   file-up-to i h = file-by-lines false 1 (firstLines i bytes) ∙ ap (λ (l : Lines). printedOf (readLines false 1 nothingTold (l .whole) (l .rest))) (first-lines bytes i h)
 
-  -- no second query line, or a file refusal before it: the display is answered what `routeline` prints
+  -- no second query line: the display is answered what `routeline` prints
   pub display-as-routeline : ((n : ℕ) → SecondQueryAt bytes n → ⊥) → displayAnswer bytes ≡ fileAnswer bytes
   display-as-routeline none = go file-parted
     where
       go : Parted 1 nothingTold (linesOf bytes .whole) (linesOf bytes .rest) → displayAnswer bytes ≡ fileAnswer bytes
       go (alike _ same) = file-read true ∙ (ap printedOf same ∙ sym (file-read false))
       go (second i s p) = absurd (none (1 + i) (second-at s))
+
+  -- so also where a file refusal comes before each line that asks again
+  pub display-refused-before : ((i : ℕ) → AsksAgain bytes i → RefusedBefore bytes i) → displayAnswer bytes ≡ fileAnswer bytes
+  display-refused-before h =
+      display-as-routeline (λ n s. let r : RefusedBefore bytes (s .comes .before) = h (s .comes .before) (s .again) in r .not-taken (s .comes .taken (r .line) (r .before)))
 
   -- a second query line: what `routeline` prints for the file up to it, and then 11 there
   pub display-up-to-second : {n : ℕ} (s : SecondQueryAt bytes n) → displayAnswer bytes ≡ fileAnswer (firstLines (s .comes .before) bytes) ++ answerLines (Refusal (MisplacedLine n)) []
