@@ -54,9 +54,10 @@ module _ (file room after : List ℕ) (count : ℕ) (p : Placed (displayAnswer f
 
   -- the header: no answer is empty, so 0 is returned exactly where the lines do not fit
   pub display-zero-exactly : (count ≡ 0) ↔ (length room < length (displayAnswer file))
-  display-zero-exactly =
-      (λ none. by-lt (length room) (length (displayAnswer file)) (λ short. short) (λ fits. absurd (omega (arith, none, display-count fits, answer-least true 1 file))),
-      display-none)
+  display-zero-exactly = (
+    λ none. by-lt (length room) (length (displayAnswer file)) (λ short. short) (λ fits. absurd (omega (arith, none, display-count fits, answer-least true 1 file))),
+    display-none,
+  )
 
   -- and lines that fit are at least a refusal's, 13 bytes
   pub display-at-least : length (displayAnswer file) ≤ length room → refusalBytes ≤ count

@@ -1,9 +1,9 @@
 -- No answer is empty: every file prints at least a refusal's line, whoever reads it. The argument: a file that goes on and has
 -- no query answered still owes one, so a query's lines or a refusal's are still to come. Assumes nothing.
 use mathlib.Core.Path.{_≡_, refl}
-use mathlib.Core.Bool.{Bool, true, false, not, _||_, or-true}
+use mathlib.Core.Bool.{Bool, true, false, _||_, or-true}
 use mathlib.Core.List.{List, [], _∷_, _++_}
-use Prim.Native.Nat.{ℕ, _+_, _≤_}
+use Prim.Native.Nat.{ℕ, _≤_}
 use native.Mathlib.Omega.{arith}
 use lib.Dec.{eqb}
 use lib.ListN.{length, length-append}
@@ -18,7 +18,7 @@ use Rattle.nba.specs.Result.{pathOf, answerTo}
 use Rattle.frames.specs.AnswerLines.{answerLines}
 use Rattle.frames.specs.AnswerLaws.{length-refused, length-no-route, length-route}
 use Rattle.district.specs.StepCases.{by-line, by-broken, by-byte}
-use Rattle.district.specs.File.{Told, File, Step, beginning, refused, taken, workRoom, queryLines, holding, takeByte, sizeOwed, arcsOwed, potentialsOwed, owing, endOfInput, answerFrom}
+use Rattle.district.specs.File.{File, Step, beginning, refused, taken, workRoom, queryLines, holding, sizeOwed, arcsOwed, potentialsOwed, owing, endOfInput, answerFrom}
 use Rattle.district.specs.FileLaws.{restOf, rest-whole, rest-none, rest-byte}
 use Rattle.district.specs.Reader.{refusalBytes}
 
