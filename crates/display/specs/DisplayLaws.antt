@@ -19,8 +19,8 @@ use Rattle.district.specs.NeverEmpty.{answer-least}
 use Rattle.display.specs.GatherLaws.{display-bytes}
 
 -- the contract of `display_answer` admits a single count and a single room at exit
-pub display-one-answer : (file room after after′ : List ℕ) (count count′ : ℕ) → Placed (displayAnswer file) room after count → Placed (displayAnswer file) room after′ count′ → (count ≡ count′) × (after ≡ after′)
-display-one-answer file room after after′ count count′ p q = (p .count-is ∙ sym (q .count-is), p .room-is ∙ sym (q .room-is))
+pub display-answer-one-answer : (file room after after′ : List ℕ) (count count′ : ℕ) → Placed (displayAnswer file) room after count → Placed (displayAnswer file) room after′ count′ → (count ≡ count′) × (after ≡ after′)
+display-answer-one-answer file room after after′ count count′ p q = (p .count-is ∙ sym (q .count-is), p .room-is ∙ sym (q .room-is))
 
 module _ (file room after : List ℕ) (count : ℕ) (p : Placed (displayAnswer file) room after count) where
   -- lines that fit
