@@ -84,7 +84,8 @@ pub record ArcsRefused (first : ℕ) (bytes : List ℕ) : Type 0 where
   pub bad : badArcs (size .arcs) ≡ true
 
 -- ---- 10
--- after i line feeds stands no sound frame: a whole line that spells none, or a last line without its line feed
+-- after i line feeds stands no sound frame: a whole line that spells none, as one with more digits than any input frame can have
+-- (`too-long` in frames), or a last line without its line feed
 pub data NoFrame (bytes : List ℕ) (i : ℕ) : Type 0 where
   unsound : i < lineCount bytes → frameAfter bytes i ≡ Unsound → NoFrame bytes i
   cut : i ≡ lineCount bytes → linesOf bytes .rest ≢ [] → NoFrame bytes i
