@@ -122,7 +122,15 @@ pub record TakenWhole (single : Bool) (first : ℕ) (bytes : List ℕ) : Type 0 
   pub none-owed : owing (toldAfter bytes (lineCount bytes)) ≡ false
 
 -- ---- the table
--- what document 01 says of a refusal of a file whose first line has this number; 3 to 9 are refusals of queries and end no file
+-- the refusals of a file whose first line has this number, row by row: the condition of this number holds at this place. 3 to 9
+-- are refusals of queries and end no file
+pub data FileCondition (single : Bool) (first : ℕ) (bytes : List ℕ) : ℕ → ℕ → Type 0 where
+  of-bad-nodes : NodesRefused first bytes → FileCondition single first bytes 1 0
+  of-bad-arcs : ArcsRefused first bytes → FileCondition single first bytes 2 0
+  of-unsound-line : {n : ℕ} → UnsoundAt single first bytes n → FileCondition single first bytes 10 n
+  of-misplaced-line : {n : ℕ} → MisplacedAt single first bytes n → FileCondition single first bytes 11 n
+
+-- the same by cause
 abbrev pub FileGiven : Bool → ℕ → List ℕ → Cause → Type 0
 FileGiven single first bytes NodeCount = NodesRefused first bytes
 FileGiven single first bytes ArcLists = ArcsRefused first bytes

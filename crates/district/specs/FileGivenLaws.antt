@@ -17,7 +17,8 @@ use Rattle.network.specs.declared.Cause.the-variants.{NodeCount, ArcLists, Pote
 use Rattle.network.specs.declared.Verdict.{Verdict}
 use Rattle.network.specs.declared.Verdict.the-variants.{Accepted, Refused}
 use Rattle.network.specs.declared.Answer.the-variants.{Refused as Refusal}
-use Rattle.network.specs.Answer.{placeOf}
+use Rattle.network.specs.Answer.{numberOf, placeOf}
+use Rattle.network.specs.Given.{Refuses, by-cause}
 use Rattle.network.specs.CaseSplit.{by-bool, by-eq, by-lt, true≢false}
 use Rattle.network.specs.Refusal.{firstRefusal}
 use Rattle.network.specs.RefusalLaws.{refused≢accepted, firstRefusal-one, rows-accepted, given-accepted, FirstRow, first-row, row-first}
@@ -28,7 +29,7 @@ use Rattle.frames.specs.AnswerLines.{answerLines}
 use Rattle.district.specs.File.{Told, nothingTold, lastLine, wrongCause, sizeOwed, owing, answerFrom}
 use Rattle.district.specs.Lines.{linesOf, mayStand, badNodes, badArcs, sizeVerdict, frameVerdict, endVerdict, toldWith, Outcome, thenOn, readLines, outcomeOf}
 use Rattle.district.specs.LinesLaws.{file-by-lines}
-use Rattle.district.specs.FileGiven.{lineCount, frameAfter, toldByLines, toldAfter, printedByLines, printedAfter, TakenAfter, ComesTo, FirstSize, NoFrame, unsound, cut, whole, part, Misplaced, last, not-there, missing, TakenWhole, FileGiven}
+use Rattle.district.specs.FileGiven.{lineCount, frameAfter, toldByLines, toldAfter, printedByLines, printedAfter, TakenAfter, ComesTo, FirstSize, NoFrame, unsound, cut, whole, part, Misplaced, last, not-there, missing, TakenWhole, FileCondition, of-bad-nodes, of-bad-arcs, of-unsound-line, of-misplaced-line, FileGiven}
 
 same-cause : {c d : Cause} → Refused c ≡ Refused d → c ≡ d
 same-cause {c} {d} e = cc
@@ -334,6 +335,32 @@ module _ (single : Bool) (first : ℕ) (bytes : List ℕ) where
   -- a file is refused exactly when document 01 gives the refusal
   pub file-refused-exactly-when : (c : Cause) → (outcomeOf single first bytes .verdict ≡ Refused c) ↔ FileGiven single first bytes c
   file-refused-exactly-when c = (refused-given c, given-refused c)
+
+  -- the same by number and place, which are those of the cause
+  condition-of : (c : Cause) → FileGiven single first bytes c → FileCondition single first bytes (numberOf c) (placeOf c)
+  condition-of NodeCount g = of-bad-nodes g
+  condition-of ArcLists g = of-bad-arcs g
+  condition-of (UnsoundLine n) g = of-unsound-line g
+  condition-of (MisplacedLine n) g = of-misplaced-line g
+  condition-of PotentialLists g = absurd g
+  condition-of StartOrEnd g = absurd g
+  condition-of Pattern g = absurd g
+  condition-of Room g = absurd g
+  condition-of (BadArc a) g = absurd g
+  condition-of (BadPotential v) g = absurd g
+  condition-of (Inconsistent a) g = absurd g
+
+  refuses-condition : {v : Verdict} {number place : ℕ} → Refuses v number place → outcomeOf single first bytes .verdict ≡ v → FileCondition single first bytes number place
+  refuses-condition (by-cause c) e = condition-of c (refused-given c e)
+
+  condition-refuses : {number place : ℕ} → FileCondition single first bytes number place → Refuses (outcomeOf single first bytes .verdict) number place
+  condition-refuses (of-bad-nodes g) = rw (given-refused NodeCount g) (by-cause NodeCount)
+  condition-refuses (of-bad-arcs g) = rw (given-refused ArcLists g) (by-cause ArcLists)
+  condition-refuses (of-unsound-line {n} g) = rw (given-refused (UnsoundLine n) g) (by-cause (UnsoundLine n))
+  condition-refuses (of-misplaced-line {n} g) = rw (given-refused (MisplacedLine n) g) (by-cause (MisplacedLine n))
+
+  pub file-given-exactly-when : (number place : ℕ) → Refuses (outcomeOf single first bytes .verdict) number place ↔ FileCondition single first bytes number place
+  file-given-exactly-when number place = (λ r. refuses-condition r refl, condition-refuses)
 
   -- a file is read to its end exactly when document 01 gives none
   pub file-accepted-exactly-when : (outcomeOf single first bytes .verdict ≡ Accepted) ↔ ((c : Cause) → FileGiven single first bytes c → ⊥)

@@ -24,7 +24,7 @@ use Rattle.network.specs.Query.{Query}
 use Rattle.network.specs.Refusal.{queryVerdict}
 use Rattle.nba.specs.State.{present}
 use Rattle.nba.specs.Search.{endState}
-use Rattle.nba.specs.Result.{pathOf, answerAt, found, answered, answerTo}
+use Rattle.nba.specs.Result.{pathOf, answerAt, found, refusedOr, answerTo}
 use Rattle.frames.specs.declared.Frame.{Frame}
 use Rattle.frames.specs.declared.Frame.the-variants.{Size, Arc, TwoWay, Potentials, Query as QueryFrame, Unsound}
 use Rattle.frames.specs.Digits.{digitOf, numberFrom, numberAt, digitsOf, spelled}
@@ -149,7 +149,7 @@ answer-none : (q : Query) (path : List ℕ) → ((c : Cause) → queryVerdict q 
 unfolding answerTo
 answer-none q path h = go (queryVerdict q workRoom) refl
   where
-    go : (v : Verdict) → queryVerdict q workRoom ≡ v → NoFiles (texts (answered v (found q)) path)
+    go : (v : Verdict) → queryVerdict q workRoom ≡ v → NoFiles (texts (refusedOr v (found q)) path)
     go Accepted e = found-none q path .none
     go (Refused c) e = refused-none c path (h c e)
 

@@ -13,12 +13,12 @@ use borrow.Author.Tests.{eq-eqb, ne-eqb, le-ltb, eqb-true, eqb-false, leb-true, 
 use Rattle.network.specs.declared.Cause.{Cause}
 use Rattle.network.specs.declared.Cause.the-variants.{NodeCount, ArcLists, PotentialLists, StartOrEnd, Pattern, Room, BadArc, BadPotential, Inconsistent, UnsoundLine, MisplacedLine}
 use Rattle.network.specs.declared.Verdict.the-variants.{Accepted, Refused}
-use Rattle.network.specs.Answer.{numberOf}
+use Rattle.network.specs.Answer.{numberOf, placeOf}
 use Rattle.network.specs.CaseSplit.{by-bool, both-true, true≢false}
 use Rattle.network.specs.Network.{mostNodes, mostArcs}
 use Rattle.network.specs.Refusal.{firstRefusal, badNodeCount, badArcLists, badPotentialLists, badRoom, queryVerdict}
 use Rattle.network.specs.RefusalLaws.{refused≢accepted}
-use Rattle.network.specs.Given.{Holds}
+use Rattle.network.specs.Given.{Condition, of-node-count, of-arc-lists, of-potential-lists, of-start-or-end, of-pattern, of-room, of-arc, of-potential, of-rule, by-cause}
 use Rattle.network.specs.GivenLaws.{given-exactly-when}
 use Rattle.frames.specs.declared.Frame.{Frame}
 use Rattle.frames.specs.declared.Frame.the-variants.{Size, Arc, TwoWay, Potentials, Query as QueryFrame, Unsound}
@@ -145,19 +145,17 @@ module _ (t : Told) (f : Fits t) (all : potentialsRead t ≡ true) (s e : ℕ) (
       both-true (arcsRead t) (not (potentialsOwed t)) all
       (λ _ r. omega (arith, f .nodes-within, ltb-false (length (t .forward)) (t .nodes) (not-true (potentialsOwed t) r)))
 
-  held-numbered : (c : Cause) → Holds (queryOn t s e p) workRoom c → QueryNumber (numberOf c)
+  held-numbered : {number place : ℕ} → Condition (queryOn t s e p) workRoom number place → QueryNumber number
   unfolding badNodeCount badArcLists badPotentialLists badRoom
-  held-numbered NodeCount h = absurd (true≢false (rw (ne-eqb (t .nodes) 0 some-nodes, le-ltb mostNodes (t .nodes) (f .few-nodes)) at h) refl)
-  held-numbered ArcLists h = absurd (true≢false (rw (eq-eqb _ _ (f .heads-long), eq-eqb _ _ (f .weights-long), le-ltb mostArcs (length (t .tails)) (omega (arith, f .arcs-within, f .few-arcs))) at h) refl)
-  held-numbered PotentialLists h = absurd (true≢false (rw (eq-eqb _ _ all-nodes, eq-eqb _ _ (f .backward-long ∙ all-nodes)) at h) refl)
-  held-numbered Room h = absurd (true≢false (rw (le-ltb mostNodes (t .nodes) (f .few-nodes)) at h) refl)
-  held-numbered StartOrEnd h = record { least = omega arith; most = omega arith; not-room = λ z. omega arith }
-  held-numbered Pattern h = record { least = omega arith; most = omega arith; not-room = λ z. omega arith }
-  held-numbered (BadArc a) h = record { least = omega arith; most = omega arith; not-room = λ z. omega arith }
-  held-numbered (BadPotential v) h = record { least = omega arith; most = omega arith; not-room = λ z. omega arith }
-  held-numbered (Inconsistent a) h = record { least = omega arith; most = omega arith; not-room = λ z. omega arith }
-  held-numbered (UnsoundLine n) h = absurd h
-  held-numbered (MisplacedLine n) h = absurd h
+  held-numbered (of-node-count h) = absurd (true≢false (rw (ne-eqb (t .nodes) 0 some-nodes, le-ltb mostNodes (t .nodes) (f .few-nodes)) at h) refl)
+  held-numbered (of-arc-lists h) = absurd (true≢false (rw (eq-eqb _ _ (f .heads-long), eq-eqb _ _ (f .weights-long), le-ltb mostArcs (length (t .tails)) (omega (arith, f .arcs-within, f .few-arcs))) at h) refl)
+  held-numbered (of-potential-lists h) = absurd (true≢false (rw (eq-eqb _ _ all-nodes, eq-eqb _ _ (f .backward-long ∙ all-nodes)) at h) refl)
+  held-numbered (of-room h) = absurd (true≢false (rw (le-ltb mostNodes (t .nodes) (f .few-nodes)) at h) refl)
+  held-numbered (of-start-or-end h) = record { least = omega arith; most = omega arith; not-room = λ z. omega arith }
+  held-numbered (of-pattern h) = record { least = omega arith; most = omega arith; not-room = λ z. omega arith }
+  held-numbered (of-arc h) = record { least = omega arith; most = omega arith; not-room = λ z. omega arith }
+  held-numbered (of-potential h) = record { least = omega arith; most = omega arith; not-room = λ z. omega arith }
+  held-numbered (of-rule h) = record { least = omega arith; most = omega arith; not-room = λ z. omega arith }
 
 -- a query that is taken, and refused: its number is 4, 5, 7, 8 or 9
 pub query-refused-with : (single : Bool) (first : ℕ) (bytes : List ℕ) (i : ℕ) → i < lineCount bytes → ((j : ℕ) → j ≤ i → TakenAfter single first bytes j)
@@ -167,5 +165,5 @@ unfolding mayStand
 query-refused-with single first bytes i h taken {s} {e} {n} frame p c v =
     let stands : mayStand single (toldAfter bytes i) (QueryFrame s e n) ≡ true = subst (λ (g : Frame). mayStand single (toldAfter bytes i) g ≡ true) frame (taken i (omega arith) .may-stand) in
     both-true (potentialsRead (toldAfter bytes i)) (not (single && toldAfter bytes i .asked)) stands
-    (λ all _. held-numbered (toldAfter bytes i) (fits-after single first bytes i (omega arith) (λ j l. taken j (omega arith))) all s e p c
-    (given-exactly-when (queryOn (toldAfter bytes i) s e p) workRoom c .0 v .holds))
+    (λ all _. held-numbered (toldAfter bytes i) (fits-after single first bytes i (omega arith) (λ j l. taken j (omega arith))) all s e p
+    (given-exactly-when (queryOn (toldAfter bytes i) s e p) workRoom (numberOf c) (placeOf c) .0 (rw v (by-cause c)) .holds))
