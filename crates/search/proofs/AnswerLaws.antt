@@ -23,27 +23,27 @@ use Rattle.nba.specs.Why.Theorems.{path-fits}
 use Rattle.turn.specs.declared.Best.{Best}
 use Rattle.search.specs.DemandLaws.{refused-left, accepted-left, query-kept}
 use Rattle.search.specs.Demands.{QueryKept}
-use Rattle.search.specs.Promise.{LentLists, lentLists, lengths, shownPath, listsAfter, SearchedInPlace, left, searchLeaves}
-use Rattle.search.specs.Run.{Filled, Long, Outcome, outcome, outcomeOf}
+use Rattle.search.specs.Promise.{LentLists, lentLists, lengths, shownPath, listsAfter, left, searchLeaves}
+use Rattle.search.specs.Run.{Filled, Long, Remains, remains, remainsOf, SearchedInPlace}
 use Rattle.search.specs.Tables.{atFront, PathRoom}
 use Rattle.search.specs.TablesLaws.{nodes-by-entry}
 
-module _ {q : Query} (sound : Sound q) {sl sn el en states : List ℕ} {best : Best} (t : outcome sl sn el en states best ≡ outcomeOf (endState q)) where
+module _ {q : Query} (sound : Sound q) {sl sn el en states : List ℕ} {best : Best} (t : remains sl sn el en states best ≡ remainsOf (endState q)) where
   -- the lists are the tables of the state at the end
   pub filled-at-end : Filled (endState q) sl sn el en states
   filled-at-end = record {
-    start-labels = ap (λ (x : Outcome). x .start-labels) t;
-    start-neighbours = ap (λ (x : Outcome). x .start-neighbours) t;
-    end-labels = ap (λ (x : Outcome). x .end-labels) t;
-    end-neighbours = ap (λ (x : Outcome). x .end-neighbours) t;
-    states = ap (λ (x : Outcome). x .states) t;
+    start-labels = ap (λ (x : Remains). x .start-labels) t;
+    start-neighbours = ap (λ (x : Remains). x .start-neighbours) t;
+    end-labels = ap (λ (x : Remains). x .end-labels) t;
+    end-neighbours = ap (λ (x : Remains). x .end-neighbours) t;
+    states = ap (λ (x : Remains). x .states) t;
   }
 
   best-is : best .length ≡ endState q .best
-  best-is = ap (λ (x : Outcome). x .best) t
+  best-is = ap (λ (x : Remains). x .best) t
 
   meeting-is : best .node ≡ endState q .meeting
-  meeting-is = ap (λ (x : Outcome). x .meeting) t
+  meeting-is = ap (λ (x : Remains). x .meeting) t
 
   -- the states are one a node
   pub states-long : length states ≡ q .network .nodes

@@ -23,13 +23,14 @@ use Rattle.network.specs.SoundLaws.{range-fine}
 use Rattle.nba.specs.Why.StateLaws.{both-sides, half-own, half-theirs}
 use Rattle.nba.specs.Why.LeastLaws.{LeastAt, Choice, no-node, least-node, choice-is}
 use Rattle.nba.specs.Why.MeasureLaws.{shiftable}
-use Rattle.nba.specs.Why.CodeLaws.{goes-on, stays-ended}
+use Rattle.nba.specs.Why.CodeLaws.{goes-on-by-mark, stays-ended-by-mark}
 use Rattle.nba.specs.Why.ByMarkLaws.{same-end}
 use Rattle.nba.specs.Why.EndLaws.{going-few}
 use Rattle.turn.specs.declared.Candidate.the-variants.{Nothing, Node}
 use Rattle.turn.specs.declared.Progress.{Progress}
-use Rattle.turn.specs.Turn.{meant, Took, took, rejects, nodeTaken, bestOf, Ahead, Openable, Passed}
-use Rattle.search.specs.Run.{standingOf, KnowsNext, Long, Floors, swappedOf, turnOf, Foreseen, Taking, Begun, TurnsMade, lastState, Outcome, outcome, outcomeOf}
+use Rattle.turn.specs.Turn.{meant, Took, took, nodeTaken, bestOf, Ahead, Openable, Passed}
+use Rattle.turn.proofs.TurnLaws.{rejected-is-rejects}
+use Rattle.search.specs.Run.{standingOf, KnowsNext, Long, Floors, swappedOf, turnOf, Foreseen, Taking, Begun, TurnsMade, lastState, Remains, remains, remainsOf}
 
 -- the network with its arcs turned the way of a side
 abbrev pub sideways : Side → Network → Network
@@ -75,9 +76,9 @@ rejected-mark end = refl
 -- a turn of `nba` is a node taken on the side's own lists
 turn-is-taken : (q : Query) (s : Side) (st : State) (u : ℕ) (k : ℤ) → length (q .network .heads) ≡ arcCount (q .network) → candidate q s st ≡ node u k
     → turnByMark q s st ≡ afterTook q s st (takenBy q s st u)
-unfolding turnByMark nodeTaken rejected rejects rejecting openingByMark
+unfolding turnByMark nodeTaken rejecting openingByMark
 turn-is-taken q s st u k e c =
-    rw (c, rejected-mark s, arcs-of-sideways s (q .network) u e, look-sideways s (q .network))
+    rw (c, rejected-mark s, arcs-of-sideways s (q .network) u e, look-sideways s (q .network), ← rejected-is-rejects q s st u)
     (twice (λ a b. a ≡ afterTook q s st b) (rejected q s st u) (λ h. refl) (λ h. refl))
 
 -- ---- what `side_turn` leaves is the state after the turn
@@ -282,17 +283,17 @@ module _ {q : Query} (sound : Sound q) {i : ℕ} {st : State} {p : Progress} (wa
 
     -- and the state after the next one is the next
     pub underway-next : {after : State} {r : Progress} → after ≡ turnOf q i st → Foreseen q after r → TurnsMade q (i + 1) after r
-    underway-next t f = record { here = t ∙ rw (way .here) (sym (rw (add-one i) (goes-on q i going))); foreseen = f }
+    underway-next t f = record { here = t ∙ rw (way .here) (sym (rw (add-one i) (goes-on-by-mark q i going))); foreseen = f }
 
   -- a side has none: the search has ended, and this is its last state
-  over : ended q st ≡ true → i ≤ q .network .nodes → outcomeOf st ≡ outcomeOf (lastState q)
-  over e h = ap outcomeOf (way .here ∙ sym (stays-ended q i (q .network .nodes) (ap (ended q) (sym (way .here)) ∙ e) h))
+  over : ended q st ≡ true → i ≤ q .network .nodes → remainsOf st ≡ remainsOf (lastState q)
+  over e h = ap remainsOf (way .here ∙ sym (stays-ended-by-mark q i (q .network .nodes) (ap (ended q) (sym (way .here)) ∙ e) h))
 
-  pub over-at-start : p .own ≡ Nothing → i ≤ q .network .nodes → outcomeOf st ≡ outcomeOf (lastState q)
+  pub over-at-start : p .own ≡ Nothing → i ≤ q .network .nodes → remainsOf st ≡ remainsOf (lastState q)
   unfolding ended
   over-at-start e = over (rw (sym (way .foreseen .mine) ∙ ap meant e) refl)
 
-  pub over-at-end : p .other ≡ Nothing → i ≤ q .network .nodes → outcomeOf st ≡ outcomeOf (lastState q)
+  pub over-at-end : p .other ≡ Nothing → i ≤ q .network .nodes → remainsOf st ≡ remainsOf (lastState q)
   unfolding ended
   over-at-end e = over (rw (sym (way .foreseen .yours) ∙ ap meant e) (either (isNone (candidate q start st))))
     where
@@ -321,14 +322,14 @@ module _ {q : Query} (sound : Sound q) {sl sn el en states : List ℕ} {p : Prog
   begun-underway = record { here = b .at-first (q .network) (q .pattern) refl; foreseen = b .foreseen (q .network) (q .pattern) refl }
 
   -- start equal to end: it has ended at once
-  pub ended-at-once : {s : ℕ} → s ≡ q .start → q .start ≡ q .end → outcome sl sn el en states (record { length = 0; node = s }) ≡ outcomeOf (endState q)
+  pub ended-at-once : {s : ℕ} → s ≡ q .start → q .start ≡ q .end → remains sl sn el en states (record { length = 0; node = s }) ≡ remainsOf (endState q)
   unfolding endState atOnce atBeginning
   ended-at-once e h =
       let f : standingOf start sl sn el en states p ≡ atBeginning q = b .at-first (q .network) (q .pattern) refl in
-      rw (eq-eqb _ _ h, e) (ap (λ (t : Outcome). record { start-labels = t .start-labels; start-neighbours = t .start-neighbours; end-labels = t .end-labels; end-neighbours = t .end-neighbours; states = t .states; best = 0; meeting = q .start }) (ap outcomeOf f))
+      rw (eq-eqb _ _ h, e) (ap (λ (t : Remains). record { start-labels = t .start-labels; start-neighbours = t .start-neighbours; end-labels = t .end-labels; end-neighbours = t .end-neighbours; states = t .states; best = 0; meeting = q .start }) (ap remainsOf f))
 
 -- start and end different: it ends with its last state
-ended-last : {q : Query} {t : Outcome} → Sound q → (q .start ≡ q .end → ⊥) → t ≡ outcomeOf (lastState q) → t ≡ outcomeOf (endState q)
+ended-last : {q : Query} {t : Remains} → Sound q → (q .start ≡ q .end → ⊥) → t ≡ remainsOf (lastState q) → t ≡ remainsOf (endState q)
 ended-last sound h e = rw (same-end sound h) e
 
 -- ---- the loop of turns
@@ -354,8 +355,8 @@ module _ {q : Query} {i : ℕ} {sl sn el en states : List ℕ} {p : Progress} (g
       })
 
   -- a side has none: the search has ended
-  pub over-own : (q′ : Query) → q ≡ q′ → (q′ .start ≡ q′ .end → ⊥) → p .own ≡ Nothing → outcomeOf (standingOf start sl sn el en states p) ≡ outcomeOf (endState q′)
+  pub over-own : (q′ : Query) → q ≡ q′ → (q′ .start ≡ q′ .end → ⊥) → p .own ≡ Nothing → remainsOf (standingOf start sl sn el en states p) ≡ remainsOf (endState q′)
   over-own q′ e h own = ended-last (rw e at (g .sound)) h (rw e at (over-at-start (g .sound) (g .way) own (g .few)))
 
-  pub over-other : (q′ : Query) → q ≡ q′ → (q′ .start ≡ q′ .end → ⊥) → p .other ≡ Nothing → outcomeOf (standingOf start sl sn el en states p) ≡ outcomeOf (endState q′)
+  pub over-other : (q′ : Query) → q ≡ q′ → (q′ .start ≡ q′ .end → ⊥) → p .other ≡ Nothing → remainsOf (standingOf start sl sn el en states p) ≡ remainsOf (endState q′)
   over-other q′ e h beyond = ended-last (rw e at (g .sound)) h (rw e at (over-at-end (g .sound) (g .way) beyond (g .few)))

@@ -1,7 +1,11 @@
-pub mod Tables
-pub mod TablesLaws
-pub mod Run
+-- What a query leaves, and what is demanded of it.
 pub mod Promise
 pub mod Demands
-pub mod DemandLaws
+-- What the functions inside promise each other.
+pub mod Tables
+pub mod Run
+-- What queries leave, computed.
 pub mod Cases
+-- Why.
+pub mod TablesLaws
+pub mod DemandLaws

@@ -6,7 +6,7 @@ ghost use Rattle.network.specs.Given.{Sound};
 ghost use Rattle.network.specs.Network.{network};
 ghost use Rattle.network.specs.Query.{query};
 ghost use Rattle.nba.specs.Search.{endState};
-ghost use Rattle.search.specs.Run.{Beginning, Begun, Foreseen, Long, Taking, outcome, outcomeOf, standing, swappedOf, turnOf};
+ghost use Rattle.search.specs.Run.{Beginning, Begun, Foreseen, Long, Taking, remains, remainsOf, standing, swappedOf, turnOf};
 use crate::tables;
 use turn::Best;
 use turn::Candidate;
@@ -145,7 +145,7 @@ pub fn find(
 ) -> Best
     requires { ⌜ Sound (query (network (length (now states)) (now tails) (now heads) (now weights)) (now forward) (now backward) start end (now pattern)) ⌝ }
     requires { ⌜ Long (length (now states)) (now «start_labels») (now «start_neighbours») (now «end_labels») (now «end_neighbours») (now states) ⌝ }
-    ensures { λ r. ⌜ outcome (now («start_labels» .exit)) (now («start_neighbours» .exit)) (now («end_labels» .exit)) (now («end_neighbours» .exit)) (now (states .exit)) r ≡ outcomeOf (endState (query (network (length (now (states .entry))) (now (tails .entry)) (now (heads .entry)) (now (weights .entry))) (now (forward .entry)) (now (backward .entry)) start end (now (pattern .entry)))) ⌝ }
+    ensures { λ r. ⌜ remains (now («start_labels» .exit)) (now («start_neighbours» .exit)) (now («end_labels» .exit)) (now («end_neighbours» .exit)) (now (states .exit)) r ≡ remainsOf (endState (query (network (length (now (states .entry))) (now (tails .entry)) (now (heads .entry)) (now (weights .entry))) (now (forward .entry)) (now (backward .entry)) start end (now (pattern .entry)))) ⌝ }
 {
     let mut p = begin(
         forward,

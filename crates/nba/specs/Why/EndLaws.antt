@@ -3,7 +3,7 @@
 use mathlib.Core.Path.{_≡_, refl, ap, _∙_}
 use mathlib.Core.Logic.{_≢_}
 use mathlib.Core.Bool.{true, false}
-use Prim.Native.Nat.{ℕ, suc, _+_, _≤_, _<_}
+use Prim.Native.Nat.{ℕ, _+_, _≤_, _<_}
 use native.Mathlib.Omega.{arith}
 use lib.Dec.{eqb}
 use lib.ListN.{length}
@@ -19,7 +19,7 @@ use Rattle.nba.specs.Search.{ended, atOnce, endState}
 use Rattle.nba.specs.Why.ByMark.{afterTurnsByMark}
 use Rattle.nba.specs.Result.{pathOf, figuresIn, answerAt}
 use Rattle.nba.specs.Demands.{WalkOfLength, Joined, NoneTwice}
-use Rattle.nba.specs.Why.CodeLaws.{at-once-tabled, stays-ended, end-unsearched}
+use Rattle.nba.specs.Why.CodeLaws.{at-once-tabled, stays-ended-by-mark, end-unsearched}
 use Rattle.nba.specs.Why.BeginningLaws.{at-once-begun, begun-source}
 use Rattle.nba.specs.Why.Trails.{Trail, at-source, HasTrail, trail-short}
 use Rattle.nba.specs.Why.PathLaws.{path-joined, path-none-twice}
@@ -133,14 +133,14 @@ module _ {q : Query} (sound : Sound q) where
   pub end-state-ends : q .start ≢ q .end → endState q ≡ afterTurnsByMark q (ends sound .turns)
   end-state-ends d =
       let e = ends sound in
-      same-end sound d ∙ stays-ended q (e .turns) (q .network .nodes) (e .over) (e .few)
+      same-end sound d ∙ stays-ended-by-mark q (e .turns) (q .network .nodes) (e .over) (e .few)
 
   -- before the search has ended, fewer turns are over than there are nodes
   pub going-few : (i : ℕ) → ended q (afterTurnsByMark q i) ≡ false → i < q .network .nodes
   going-few i h =
       let e = ends sound in
       by-lt i (e .turns) (λ l. omega (arith, e .few))
-      (λ l. absurd (true≢false (ap (ended q) (stays-ended q (e .turns) i (e .over) l) ∙ e .over) h))
+      (λ l. absurd (true≢false (ap (ended q) (stays-ended-by-mark q (e .turns) i (e .over) l) ∙ e .over) h))
 
   pub end-state-at-once : q .start ≡ q .end → endState q ≡ atOnce q
   end-state-at-once e =

@@ -2,12 +2,11 @@
 -- each arc of the top weight. The walk along the chain is that long, and none is shorter: the potential of a node is how far it
 -- is from the last, and along a walk a consistent potential falls by no more than the walk's length. No turn is computed.
 -- Assumes nothing.
-use mathlib.Core.Path.{_≡_, refl, sym, ap, _∙_}
-use mathlib.Core.Bool.{true, false, _&&_}
+use mathlib.Core.Path.{_≡_, refl, ap, _∙_}
+use mathlib.Core.Bool.{true, false}
 use mathlib.Core.List.{List, [], _∷_}
 use Prim.Native.Nat.{ℕ, zero, suc, _+_, _*_, _-_, _≤_, _<_}
 use native.Mathlib.Omega.{arith}
-use lib.Dec.{eqb, ltb, leb}
 use lib.IntN.{ℤ, pos, _-ℤ_}
 use lib.Signed.{leZ}
 use lib.ListN.{length, getD, replicate, length-replicate, getD-replicate}
@@ -20,12 +19,12 @@ use Rattle.network.specs.declared.Verdict.the-variants.{Accepted}
 use Rattle.network.specs.Network.{start, end, Network, network, mostNodes, mostArcs, mostWeight, arcCount, near, weight, isArc}
 use Rattle.network.specs.Walk.{Step, Walk, here, step}
 use Rattle.network.specs.WalkLaws.{walk-is}
-use Rattle.network.specs.Potential.{potentialAt, mostPotential, keepsRule}
-use Rattle.network.specs.PotentialLaws.{shift, shifted, Shiftable, potential-along-walk}
+use Rattle.network.specs.Potential.{mostPotential, keepsRule}
+use Rattle.network.specs.PotentialLaws.{shift, shifted, potential-along-walk}
 use Rattle.network.specs.Query.{Query, query}
 use Rattle.network.specs.Refusal.{nowhere, lowest, badNodeCount, badArcLists, badPotentialLists, badStartOrEnd, badEntry, badPattern, badRoom, badArc, outOfRange, badPotential, breaksRule, listRows, tripRows, mapRows, firstRefusal, queryVerdict}
 use Rattle.network.specs.LowestLaws.{passes-nowhere}
-use Rattle.network.specs.Shift.{up, low, low-pos, up-pos, up-within}
+use Rattle.network.specs.Shift.{up, low-pos, up-pos, up-within}
 use Rattle.network.specs.Given.{Sound}
 use Rattle.network.specs.SoundLaws.{accepted-sound}
 use Rattle.network.specs.CaseSplit.{by-lt}
