@@ -23,8 +23,8 @@ use Rattle.nba.specs.Why.Theorems.{path-fits}
 use Rattle.turn.specs.declared.Best.{Best}
 use Rattle.search.specs.DemandLaws.{refused-left, accepted-left, query-kept}
 use Rattle.search.specs.Demands.{QueryKept}
-use Rattle.search.specs.Promise.{LentLists, lentLists, lengths, shownPath, listsAfter, SearchedInPlace, left, searchLeaves}
-use Rattle.search.specs.Run.{Filled, Long, Remains, remains, remainsOf}
+use Rattle.search.specs.Promise.{LentLists, lentLists, lengths, shownPath, listsAfter, left, searchLeaves}
+use Rattle.search.specs.Run.{Filled, Long, Remains, remains, remainsOf, SearchedInPlace}
 use Rattle.search.specs.Tables.{atFront, PathRoom}
 use Rattle.search.specs.TablesLaws.{nodes-by-entry}
 

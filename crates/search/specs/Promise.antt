@@ -1,5 +1,4 @@
 -- What a query leaves: its answer, and every entry of every lent list. Assumes nothing.
-use mathlib.Core.Path.{_≡_}
 use mathlib.Core.Bool.{cond}
 use mathlib.Core.List.{List, []}
 use Prim.Native.Nat.{ℕ}
@@ -14,7 +13,6 @@ use Rattle.network.specs.Refusal.{queryVerdict}
 use Rattle.nba.specs.State.{State, present}
 use Rattle.nba.specs.Search.{endState}
 use Rattle.nba.specs.Result.{pathOf, found}
-use Rattle.search.specs.Run.{Filled}
 use Rattle.search.specs.Tables.{atFront}
 
 -- the six lists that a caller lends
@@ -72,13 +70,6 @@ pub record Left : Type 0 where
 
 abbrev pub left : Answer → LentLists → Left
 left a l = record { answer = a; lists = l }
-
--- the same where the work lists have exactly one entry a node: the answer, the tables of the end state, and the path before what
--- stood in the path list beyond it
-pub record SearchedInPlace (q : Query) (path : List ℕ) (r : Answer) (after : LentLists) : Type 0 where
-  pub answer : r ≡ found q
-  pub tables : Filled (endState q) (after .start-labels) (after .start-neighbours) (after .end-labels) (after .end-neighbours) (after .states)
-  pub path-shown : after .path ≡ atFront (shownPath q (endState q)) path
 
 -- what the search of an accepted query leaves
 abbrev pub searchLeaves : Query → LentLists → Left

@@ -6,14 +6,18 @@ use Prim.Native.Nat.{ℕ, _<_, _≤_, _^_}
 use lib.IntN.{ℤ}
 use lib.ListN.{length}
 use lib.Signed.{mag}
+use Rattle.network.specs.declared.Answer.{Answer}
 use Rattle.network.specs.Network.{Side, start, end, other, Network, mostNodes}
 use Rattle.network.specs.Query.{Query, query, sideOfTurn}
 use Rattle.nba.specs.State.{State, state}
-use Rattle.nba.specs.Search.{node, candidate, atBeginning}
+use Rattle.nba.specs.Search.{node, candidate, atBeginning, endState}
+use Rattle.nba.specs.Result.{found}
 use Rattle.nba.specs.Why.ByMark.{turnByMark, afterTurnsByMark}
 use Rattle.turn.specs.declared.Best.{Best}
 use Rattle.turn.specs.declared.Progress.{Progress}
 use Rattle.turn.specs.Turn.{meant}
+use Rattle.search.specs.Tables.{atFront}
+use Rattle.search.specs.Promise.{LentLists, shownPath}
 
 -- the state that a side's own lists, the other side's, the states and the side's progress stand for
 abbrev pub standingOf : Side → List ℕ → List ℕ → List ℕ → List ℕ → List ℕ → Progress → State
@@ -124,3 +128,10 @@ pub record Filled (st : State) (sl sn el en marks : List ℕ) : Type 0 where
   pub end-labels : el ≡ st .end-half .labels
   pub end-neighbours : en ≡ st .end-half .neighbours
   pub states : marks ≡ st .states
+
+-- a search is done on work lists with exactly one entry a node: its answer, the tables of the end state, and the path before
+-- what stood in the path list beyond it
+pub record SearchedInPlace (q : Query) (path : List ℕ) (r : Answer) (after : LentLists) : Type 0 where
+  pub answer : r ≡ found q
+  pub tables : Filled (endState q) (after .start-labels) (after .start-neighbours) (after .end-labels) (after .end-neighbours) (after .states)
+  pub path-shown : after .path ≡ atFront (shownPath q (endState q)) path

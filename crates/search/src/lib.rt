@@ -14,8 +14,8 @@ ghost use Rattle.network.specs.Network.{network};
 ghost use Rattle.network.specs.Query.{query as asked};
 ghost use Rattle.network.specs.Refusal.{queryVerdict};
 ghost use Rattle.search.specs.Demands.{QueryKept};
-ghost use Rattle.search.specs.Promise.{SearchedInPlace, left, lengths, lentLists, searchLeaves};
-ghost use Rattle.search.specs.Run.{Long};
+ghost use Rattle.search.specs.Promise.{left, lengths, lentLists, searchLeaves};
+ghost use Rattle.search.specs.Run.{Long, SearchedInPlace};
 
 // The search of an accepted query, on lists with exactly one entry a node and a path list with room for as many.
 fn searched(
