@@ -12,9 +12,10 @@ pub mod FileLaws
 pub mod LinesLaws
 pub mod FileGivenLaws
 pub mod QueryRefusals
-pub mod SecondQueryLaws
-pub mod NeverEmpty
+pub mod LastPrinted
 pub mod OneAnswer
 pub mod Cases
 pub mod LinesCases
 pub mod PrintLaws
+pub mod NeverEmpty
+pub mod SecondQueryLaws
