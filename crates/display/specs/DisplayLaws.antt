@@ -19,8 +19,8 @@ use Rattle.district.specs.NeverEmpty.{answer-least}
 use Rattle.display.specs.GatherLaws.{display-bytes}
 
 -- the contract of `display_answer` admits a single count and a single room at exit
-pub display-one-answer : (file room after after′ : List ℕ) (count count′ : ℕ) → Placed (displayAnswer file) room after count → Placed (displayAnswer file) room after′ count′ → (count ≡ count′) × (after ≡ after′)
-display-one-answer file room after after′ count count′ p q = (p .count-is ∙ sym (q .count-is), p .room-is ∙ sym (q .room-is))
+pub display-answer-one-answer : (file room after after′ : List ℕ) (count count′ : ℕ) → Placed (displayAnswer file) room after count → Placed (displayAnswer file) room after′ count′ → (count ≡ count′) × (after ≡ after′)
+display-answer-one-answer file room after after′ count count′ p q = (p .count-is ∙ sym (q .count-is), p .room-is ∙ sym (q .room-is))
 
 module _ (file room after : List ℕ) (count : ℕ) (p : Placed (displayAnswer file) room after count) where
   -- lines that fit
@@ -54,9 +54,10 @@ module _ (file room after : List ℕ) (count : ℕ) (p : Placed (displayAnswer f
 
   -- the header: no answer is empty, so 0 is returned exactly where the lines do not fit
   pub display-zero-exactly : (count ≡ 0) ↔ (length room < length (displayAnswer file))
-  display-zero-exactly =
-      (λ none. by-lt (length room) (length (displayAnswer file)) (λ short. short) (λ fits. absurd (omega (arith, none, display-count fits, answer-least true 1 file))),
-      display-none)
+  display-zero-exactly = (
+    λ none. by-lt (length room) (length (displayAnswer file)) (λ short. short) (λ fits. absurd (omega (arith, none, display-count fits, answer-least true 1 file))),
+    display-none,
+  )
 
   -- and lines that fit are at least a refusal's, 13 bytes
   pub display-at-least : length (displayAnswer file) ≤ length room → refusalBytes ≤ count

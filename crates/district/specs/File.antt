@@ -50,11 +50,11 @@ pub record File : Type 0 where
   pub going : Bool
 
 -- a file one step further, and the bytes that the step prints
-pub record Step : Type 0 where
+pub record FileStep : Type 0 where
   pub file : File
   pub printed : List ℕ
 
-abbrev pub step : File → List ℕ → Step
+abbrev pub step : File → List ℕ → FileStep
 step f printed = record { file = f; printed = printed }
 
 -- nothing is told yet
@@ -71,12 +71,12 @@ lastLine = 4294967295
 
 -- ---- the two ways on
 -- a file refusal: its FF line is printed, and it ends the file
-unfoldable pub refused : File → Cause → Step
+unfoldable pub refused : File → Cause → FileStep
 refused f c =
     step (record { told = f .told; line = f .line; held = f .held; single = f .single; going = false }) (answerLines (Refused c) [])
 
 -- the line is taken: the next line begins, with what is told now
-unfoldable pub taken : File → Told → List ℕ → Step
+unfoldable pub taken : File → Told → List ℕ → FileStep
 taken f told printed =
     step (record { told = told; line = f .line + 1; held = []; single = f .single; going = f .going }) printed
 
@@ -89,7 +89,7 @@ wrongCause (TwoWay t h w) line = MisplacedLine line
 wrongCause (Potentials v h k) line = MisplacedLine line
 wrongCause (QueryFrame s e n) line = MisplacedLine line
 
-abbrev pub wrong : File → Frame → Step
+abbrev pub wrong : File → Frame → FileStep
 wrong f g = refused f (wrongCause g (f .line))
 
 -- ---- 01
@@ -108,7 +108,7 @@ withSize t n m =
     }
 
 -- where a 01 is owed: a bad node count is 1, a bad arc count is 2
-unfoldable pub takeSize : File → Frame → Step
+unfoldable pub takeSize : File → Frame → FileStep
 takeSize f (Size n m) =
     cond (eqb n 0 || ltb mostNodes n) (refused f NodeCount)
     (cond (ltb mostArcs m) (refused f ArcLists) (taken f (withSize (f .told) n m) []))
@@ -151,7 +151,7 @@ withArcs t added =
     }
 
 -- where arcs are owed: a frame that adds arcs, and no more than are owed
-unfoldable pub takeArcs : File → Frame → Step
+unfoldable pub takeArcs : File → Frame → FileStep
 takeArcs f g =
     cond (ltb 0 (length (addedArcs g)) && leb (length (addedArcs g)) (f .told .arcs - length (f .told .tails)))
     (taken f (withArcs (f .told) (addedArcs g)) []) (wrong f g)
@@ -171,7 +171,7 @@ withPotentials t h k =
     }
 
 -- where potentials are owed: those of the next node
-unfoldable pub takePotentials : File → Frame → Step
+unfoldable pub takePotentials : File → Frame → FileStep
 takePotentials f (Potentials v h k) =
     cond (eqb v (length (f .told .forward))) (taken f (withPotentials (f .told) h k) []) (wrong f (Potentials v h k))
 takePotentials f (Size n m) = wrong f (Size n m)
@@ -215,7 +215,7 @@ withQuery t =
     }
 
 -- where a query may stand: it is answered at once; a second one in the display's file is 11
-unfoldable pub takeQuery : File → Frame → Step
+unfoldable pub takeQuery : File → Frame → FileStep
 takeQuery f (QueryFrame s e n) =
     cond (f .single && f .told .asked) (wrong f (QueryFrame s e n))
     (taken f (withQuery (f .told)) (queryLines (queryOn (f .told) s e (patternOf (f .held)))))
@@ -236,17 +236,17 @@ arcsOwed t = ltb (length (t .tails)) (t .arcs)
 abbrev pub potentialsOwed : Told → Bool
 potentialsOwed t = ltb (length (t .forward)) (t .nodes)
 
-unfoldable pub takeFrame : File → Frame → Step
+unfoldable pub takeFrame : File → Frame → FileStep
 takeFrame f g =
     cond (sizeOwed (f .told)) (takeSize f g)
     (cond (arcsOwed (f .told)) (takeArcs f g) (cond (potentialsOwed (f .told)) (takePotentials f g) (takeQuery f g)))
 
 -- a whole line: line 4,294,967,295 is 11, sound or not
-unfoldable pub takeLine : File → Step
+unfoldable pub takeLine : File → FileStep
 takeLine f = cond (eqb (f .line) lastLine) (refused f (MisplacedLine lastLine)) (takeFrame f (frameOf (f .held)))
 
 -- a line that is no sound frame for its length alone, or for want of its line feed
-unfoldable pub brokenLine : File → Step
+unfoldable pub brokenLine : File → FileStep
 brokenLine f = cond (eqb (f .line) lastLine) (refused f (MisplacedLine lastLine)) (refused f (UnsoundLine (f .line)))
 
 -- ---- bytes
@@ -256,7 +256,7 @@ holding f b = record { told = f .told; line = f .line; held = f .held ++ (b ∷ 
 
 -- the next byte: a line feed ends the line, and a line with more bytes than any input frame has digits is broken at once.
 -- Where a refusal has ended the file, nothing is read any more
-unfoldable pub takeByte : File → ℕ → Step
+unfoldable pub takeByte : File → ℕ → FileStep
 takeByte f b =
     cond (f .going)
     (cond (eqb b lineFeed) (takeLine f) (cond (ltb (length (f .held)) mostDigits) (step (holding f b) []) (brokenLine f)))
@@ -274,7 +274,7 @@ endOfInput f =
     []
 
 -- bytes one after the other
-unfoldable pub feed : File → List ℕ → Step
+unfoldable pub feed : File → List ℕ → FileStep
 feed f [] = step f []
 feed f (b ∷ bytes) =
     let first = takeByte f b in

@@ -1,12 +1,12 @@
 -- "Given exactly when" for the refusals of a file (document 01, the table's numbers 1, 2, 10 and 11, and "District frames"),
 -- each with its line. Lines are counted by what stands before them: after i line feeds stands the line with number first + i.
 -- Definitions only; FileGivenLaws proves them of a file's outcome, both ways, and of what it prints; QueryRefusals tells the
--- refusals of queries from them. Assumes nothing.
+-- refusals of queries from them; and LastPrinted proves them of the last line that a file prints. Assumes nothing.
 use mathlib.Core.Path.{_≡_}
 use mathlib.Core.Logic.{_≢_}
 use mathlib.Core.Bool.{Bool, true, false}
 use mathlib.Core.List.{List, [], _∷_, _++_}
-use Prim.Native.Nat.{ℕ, _+_, _≤_, _<_}
+use Prim.Native.Nat.{ℕ, _+_, _-_, _≤_, _<_}
 use lib.ListN.{length, take, getD}
 use Rattle.network.specs.declared.Cause.{Cause}
 use Rattle.network.specs.declared.Cause.the-variants.{NodeCount, ArcLists, PotentialLists, StartOrEnd, Pattern, Room, BadArc, BadPotential, Inconsistent, UnsoundLine, MisplacedLine}
@@ -44,6 +44,10 @@ printedByLines t (line ∷ more) = printedFor t line (frameOf line) ++ printedBy
 abbrev pub printedAfter : List ℕ → ℕ → List ℕ
 printedAfter bytes i = printedByLines nothingTold (take i (linesOf bytes .whole))
 
+-- the last line that is printed, without its line feed
+unfoldable pub lastPrinted : List ℕ → List ℕ
+lastPrinted printed = getD (linesOf printed .whole) (lineCount printed - 1) []
+
 -- ---- lines that are taken
 -- the line after i line feeds is taken: it is not line 4,294,967,295, its frame may stand there, and if it is the 01 its counts
 -- are good
@@ -80,7 +84,8 @@ pub record ArcsRefused (first : ℕ) (bytes : List ℕ) : Type 0 where
   pub bad : badArcs (size .arcs) ≡ true
 
 -- ---- 10
--- after i line feeds stands no sound frame: a whole line that spells none, or a last line without its line feed
+-- after i line feeds stands no sound frame: a whole line that spells none, as one with more digits than any input frame can have
+-- (`too-long` in frames), or a last line without its line feed
 pub data NoFrame (bytes : List ℕ) (i : ℕ) : Type 0 where
   unsound : i < lineCount bytes → frameAfter bytes i ≡ Unsound → NoFrame bytes i
   cut : i ≡ lineCount bytes → linesOf bytes .rest ≢ [] → NoFrame bytes i

@@ -183,6 +183,7 @@ module _ (single : Bool) (first : ℕ) (bytes : List ℕ) where
   pub taken-accepted : (i : ℕ) → TakenAfter single first bytes i → frameVerdict single (first + i) (toldAfter bytes i) (frameAfter bytes i) ≡ Accepted
   taken-accepted i t = verdict-counts single _ _ _ (t .numbered) (t .may-stand) ∙ t .good-counts
 
+  -- what one line more tells
   pub told-next : (i : ℕ) → i < lineCount bytes → toldAfter bytes (suc i) ≡ toldWith (toldAfter bytes i) (frameAfter bytes i)
   told-next i h = rw (take-suc (linesOf bytes .whole) i [] h) (told-last nothingTold (take i (linesOf bytes .whole)) (getD (linesOf bytes .whole) i []))
 

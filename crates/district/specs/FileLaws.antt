@@ -22,12 +22,12 @@ use Rattle.nba.specs.Why.Theorems.{path-fits}
 use Rattle.frames.specs.AnswerLines.{answerLines}
 use Rattle.frames.specs.AnswerLaws.{length-refused, length-no-route, length-route}
 use Rattle.district.specs.StepCases.{by-line, by-broken, by-byte, by-end}
-use Rattle.district.specs.File.{Told, File, Step, step, beginning, refused, taken, workRoom, queryLines, takeByte, endOfInput, feed, answerFrom}
+use Rattle.district.specs.File.{Told, File, FileStep, step, beginning, refused, taken, workRoom, queryLines, takeByte, endOfInput, feed, answerFrom}
 use Rattle.district.specs.Reader.{mostBytes, refusalBytes}
 
 -- ---- pieces
 -- feeding two pieces is feeding the first and then the second
-abbrev pub after : Step → (File → Step) → Step
+abbrev pub after : FileStep → (File → FileStep) → FileStep
 after s f = step (f (s .file) .file) (s .printed ++ f (s .file) .printed)
 
 pub feed-append : (f : File) (a b : List ℕ) → feed f (a ++ b) ≡ after (feed f a) (λ g. feed g b)
@@ -73,7 +73,7 @@ unfoldable pub atMost : File → ℕ
 atMost f = cond (f .going) (cond (f .told .asked) refusalBytes (mostBytes + refusalBytes)) 0
 
 -- a step of a file with one query prints out of what is left to it
-pub record Spends (f : File) (s : Step) : Type 0 where
+pub record Spends (f : File) (s : FileStep) : Type 0 where
   pub still-single : s .file .single ≡ true
   pub out-of : length (s .printed) + atMost (s .file) ≤ atMost f
 

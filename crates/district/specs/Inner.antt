@@ -15,7 +15,7 @@ use Rattle.frames.specs.declared.Frame.{Frame}
 use Rattle.frames.specs.declared.Frame.the-variants.{Arc}
 use Rattle.district.specs.declared.Reader.{Reader}
 use Rattle.district.specs.declared.Taken.{Taken}
-use Rattle.district.specs.File.{File, Step, lastLine}
+use Rattle.district.specs.File.{File, FileStep, lastLine}
 use Rattle.district.specs.Reader.{Lists, lists, fileOf, Kept, Stepped}
 
 -- ---- readers
@@ -53,16 +53,16 @@ withVerdict r verdict =
 
 -- ---- steps
 -- what a step that changes no list promises (`Stepped`), whatever the lists are
-pub record SteppedOver (s : File → Step) (r : Reader) (t : Taken) (room room-after : List ℕ) : Type 0 where
+pub record SteppedOver (s : File → FileStep) (r : Reader) (t : Taken) (room room-after : List ℕ) : Type 0 where
   pub law : (l : Lists) → Kept r l → Stepped (s (fileOf r l)) t l l room room-after
 
 -- the same of a step that changes the arc lists only
-pub record SteppedArcs (s : File → Step) (r : Reader) (t : Taken) (tails heads weights tails′ heads′ weights′ room room-after : List ℕ) : Type 0 where
+pub record SteppedArcs (s : File → FileStep) (r : Reader) (t : Taken) (tails heads weights tails′ heads′ weights′ room room-after : List ℕ) : Type 0 where
   pub law : (line : List ℕ) (h k : List ℤ) → Kept r (lists line tails heads weights h k)
       → Stepped (s (fileOf r (lists line tails heads weights h k))) t (lists line tails heads weights h k) (lists line tails′ heads′ weights′ h k) room room-after
 
 -- the same of a step that changes the potential lists only
-pub record SteppedPotentials (s : File → Step) (r : Reader) (t : Taken) (tails heads weights : List ℕ) (h k h′ k′ : List ℤ) (room room-after : List ℕ) : Type 0 where
+pub record SteppedPotentials (s : File → FileStep) (r : Reader) (t : Taken) (tails heads weights : List ℕ) (h k h′ k′ : List ℤ) (room room-after : List ℕ) : Type 0 where
   pub law : (line : List ℕ) → Kept r (lists line tails heads weights h k)
       → Stepped (s (fileOf r (lists line tails heads weights h k))) t (lists line tails heads weights h k) (lists line tails heads weights h′ k′) room room-after
 

@@ -14,6 +14,7 @@ pub mod FileGivenLaws
 pub mod SecondQueryLaws
 pub mod NeverEmpty
 pub mod QueryRefusals
+pub mod LastPrinted
 pub mod OneAnswer
 pub mod Cases
 pub mod LinesCases

@@ -22,7 +22,7 @@ use Rattle.frames.specs.declared.Frame.the-variants.{Size, Arc, TwoWay, Potenti
 use Rattle.frames.specs.Frame.{mostDigits, frameOf}
 use Rattle.frames.specs.FrameCases.{too-long}
 use Rattle.frames.specs.AnswerLines.{lineFeed, answerLines}
-use Rattle.district.specs.File.{Told, File, Step, nothingTold, lastLine, refused, taken, wrongCause, sizeOwed, arcsOwed, potentialsOwed, takeSize, takeArcs, takePotentials, takeQuery, takeFrame, takeLine, brokenLine, takeByte, owing, endOfInput, answerFrom}
+use Rattle.district.specs.File.{Told, File, FileStep, nothingTold, lastLine, refused, taken, wrongCause, sizeOwed, arcsOwed, potentialsOwed, takeSize, takeArcs, takePotentials, takeQuery, takeFrame, takeLine, brokenLine, takeByte, owing, endOfInput, answerFrom}
 use Rattle.district.specs.FileLaws.{restOf, rest-whole, rest-none, rest-byte}
 use Rattle.district.specs.Lines.{Lines, beganWith, linesOf, joined, withoutFeed, owedArcs, mayStand, badNodes, badArcs, sizeVerdict, frameVerdict, endVerdict, toldWith, printedFor, Outcome, thenOn, readLines, outcomeOf, refusalLine, printedOf}
 
@@ -89,7 +89,7 @@ abbrev reading : Bool → ℕ → Told → List ℕ → File
 reading single n t held = record { told = t; line = n; held = held; single = single; going = true }
 
 -- the step that a verdict on a line's frame asks for
-abbrev stepBy : File → Frame → Verdict → Step
+abbrev stepBy : File → Frame → Verdict → FileStep
 stepBy f g Accepted = taken f (toldWith (f .told) g) (printedFor (f .told) (f .held) g)
 stepBy f g (Refused c) = refused f c
 

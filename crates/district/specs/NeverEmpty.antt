@@ -1,9 +1,9 @@
 -- No answer is empty: every file prints at least a refusal's line, whoever reads it. The argument: a file that goes on and has
 -- no query answered still owes one, so a query's lines or a refusal's are still to come. Assumes nothing.
 use mathlib.Core.Path.{_≡_, refl}
-use mathlib.Core.Bool.{Bool, true, false, not, _||_, or-true}
+use mathlib.Core.Bool.{Bool, true, false, _||_, or-true}
 use mathlib.Core.List.{List, [], _∷_, _++_}
-use Prim.Native.Nat.{ℕ, _+_, _≤_}
+use Prim.Native.Nat.{ℕ, _≤_}
 use native.Mathlib.Omega.{arith}
 use lib.Dec.{eqb}
 use lib.ListN.{length, length-append}
@@ -18,7 +18,7 @@ use Rattle.nba.specs.Result.{pathOf, answerTo}
 use Rattle.frames.specs.AnswerLines.{answerLines}
 use Rattle.frames.specs.AnswerLaws.{length-refused, length-no-route, length-route}
 use Rattle.district.specs.StepCases.{by-line, by-broken, by-byte}
-use Rattle.district.specs.File.{Told, File, Step, beginning, refused, taken, workRoom, queryLines, holding, takeByte, sizeOwed, arcsOwed, potentialsOwed, owing, endOfInput, answerFrom}
+use Rattle.district.specs.File.{File, FileStep, beginning, refused, taken, workRoom, queryLines, holding, sizeOwed, arcsOwed, potentialsOwed, owing, endOfInput, answerFrom}
 use Rattle.district.specs.FileLaws.{restOf, rest-whole, rest-none, rest-byte}
 use Rattle.district.specs.Reader.{refusalBytes}
 
@@ -48,7 +48,7 @@ end-least f goes none =
     cases (λ (l : List ℕ). refusalBytes ≤ length l) (f .going)
     (λ _. cases (λ (l : List ℕ). refusalBytes ≤ length l) (eqb (length (f .held)) 0)
     (λ _. cases (λ (l : List ℕ). refusalBytes ≤ length l) (owing (f .told)) (λ _. refused-least f (MisplacedLine (f .line))) (λ e. absurd (true≢false owed e)))
-    (λ _. by-broken f (λ (s : Step). refusalBytes ≤ length (s .printed)) (refused-least f)))
+    (λ _. by-broken f (λ (s : FileStep). refusalBytes ≤ length (s .printed)) (refused-least f)))
     (λ e. absurd (true≢false goes e))
 
 rest-least : (f : File) (bytes : List ℕ) → f .going ≡ true → f .told .asked ≡ false → refusalBytes ≤ length (restOf f bytes)
@@ -57,12 +57,12 @@ rest-least f [] goes none = rw rest-none (end-least f goes none)
 rest-least f (b ∷ bytes) goes none =
     let refusal : (c : Cause) → refusalBytes ≤ length (refused f c .printed ++ restOf (refused f c .file) bytes) = λ c. with-rest (refused f c .printed) (restOf (refused f c .file) bytes) (refused-least f c) in
     rw rest-byte
-    (by-byte f b (λ (s : Step). refusalBytes ≤ length (s .printed ++ restOf (s .file) bytes))
-    (λ _. by-line f (λ (s : Step). refusalBytes ≤ length (s .printed ++ restOf (s .file) bytes)) refusal
+    (by-byte f b (λ (s : FileStep). refusalBytes ≤ length (s .printed ++ restOf (s .file) bytes))
+    (λ _. by-line f (λ (s : FileStep). refusalBytes ≤ length (s .printed ++ restOf (s .file) bytes)) refusal
     (λ t e. rest-least (taken f t [] .file) bytes goes (rw e none))
     (λ t q e o. with-rest (queryLines q) (restOf (taken f t (queryLines q) .file) bytes) (query-least q)))
     (rest-least (holding f b) bytes goes none)
-    (λ _. by-broken f (λ (s : Step). refusalBytes ≤ length (s .printed ++ restOf (s .file) bytes)) refusal)
+    (λ _. by-broken f (λ (s : FileStep). refusalBytes ≤ length (s .printed ++ restOf (s .file) bytes)) refusal)
     (rest-least f bytes goes none))
 
 -- every file's answer has at least as many bytes as a refusal's line

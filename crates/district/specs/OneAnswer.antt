@@ -11,7 +11,7 @@ use Rattle.network.specs.Network.{network}
 use Rattle.network.specs.Refusal.{networkVerdict}
 use Rattle.district.specs.declared.Reader.{Reader}
 use Rattle.district.specs.declared.Taken.{Taken}
-use Rattle.district.specs.File.{File, Step}
+use Rattle.district.specs.File.{File, FileStep}
 use Rattle.district.specs.Reader.{Lists, toldBy, fileOf, Reached, Stepped, Ended, startReader, ownVerdict}
 use Rattle.district.specs.ReaderLaws.{count-tails, count-forward, count-held}
 
@@ -24,7 +24,7 @@ same-list : {A : Type 0} (n m : ℕ) (x y z : List A) → n ≡ m → take n x �
 same-list n m x y z e p q r = sym (take-append-drop n x) ∙ (rw (p, q, e, ← r) (take-append-drop m y))
 
 -- `take_byte`: the results, the lists and the room
-module _ (s : Step) (l : Lists) (room : List ℕ) (t u : Taken) (a b : Lists) (x y : List ℕ) (p : Stepped s t l a room x) (q : Stepped s u l b room y) where
+module _ (s : FileStep) (l : Lists) (room : List ℕ) (t u : Taken) (a b : Lists) (x y : List ℕ) (p : Stepped s t l a room x) (q : Stepped s u l b room y) where
   same-file : fileOf (t .reader) a ≡ fileOf (u .reader) b
   same-file = p .file-is ∙ sym (q .file-is)
 

@@ -6,13 +6,13 @@ use native.Mathlib.Omega.{arith}
 use lib.ListN.{length}
 use Rattle.network.specs.declared.Cause.{Cause}
 use Rattle.frames.specs.AnswerLaws.{length-refused}
-use Rattle.district.specs.File.{File, Step, refused, taken, takeByte, endOfInput}
+use Rattle.district.specs.File.{File, FileStep, refused, taken, takeByte, endOfInput}
 use Rattle.district.specs.Reader.{mostBytes}
 use Rattle.district.specs.FileLaws.{query-short}
 use Rattle.district.specs.StepCases.{by-line, by-broken, by-byte, by-end}
 
 -- a step prints at most one answer's lines
-pub record Short (s : Step) : Type 0 where
+pub record Short (s : FileStep) : Type 0 where
   pub bytes : length (s .printed) ≤ mostBytes
 
 module _ (f : File) where

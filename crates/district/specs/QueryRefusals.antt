@@ -39,7 +39,8 @@ record Fits (t : Told) : Type 0 where
   pub backward-long : length (t .backward) ≡ length (t .forward)
   pub nodes-within : length (t .forward) ≤ t .nodes
 
-not-true : (b : Bool) → not b ≡ true → b ≡ false
+-- a test that is not passed fails
+pub not-true : (b : Bool) → not b ≡ true → b ≡ false
 not-true true h = sym h
 not-true false h = refl
 

@@ -15,7 +15,7 @@ use Rattle.frames.specs.Frame.{mostDigits}
 use Rattle.frames.specs.Room.{Placed}
 use Rattle.district.specs.declared.Reader.{Reader}
 use Rattle.district.specs.declared.Taken.{Taken}
-use Rattle.district.specs.File.{Told, File, Step, endOfInput}
+use Rattle.district.specs.File.{Told, File, FileStep, endOfInput}
 
 -- the lists that a reader is lent and that are kept from byte to byte
 pub record Lists : Type 0 where
@@ -115,7 +115,7 @@ pub record Beyond (r : Reader) (l after : Lists) : Type 0 where
 
 -- what a step promises: reader and lists stand for the file that the definition says, with no entry beyond it changed; the
 -- bytes that it prints are placed in the room; and the next step may follow
-pub record Stepped (s : Step) (t : Taken) (l after : Lists) (room room-after : List ℕ) : Type 0 where
+pub record Stepped (s : FileStep) (t : Taken) (l after : Lists) (room room-after : List ℕ) : Type 0 where
   pub file-is : fileOf (t .reader) after ≡ s .file
   pub beyond : Beyond (t .reader) l after
   pub room-is : Placed (s .printed) room room-after (t .written)

@@ -19,7 +19,7 @@ use Rattle.frames.specs.AnswerLines.{lineFeed}
 use Rattle.frames.specs.RoomLaws.{nothing-placed}
 use Rattle.district.specs.declared.Reader.{Reader}
 use Rattle.district.specs.declared.Taken.{Taken}
-use Rattle.district.specs.File.{File, Step, step, beginning, lastLine, refused, takeSize, takeArcs, takePotentials, takeQuery, takeFrame, takeLine, brokenLine, holding, takeByte, owing, endOfInput}
+use Rattle.district.specs.File.{File, FileStep, step, beginning, lastLine, refused, takeSize, takeArcs, takePotentials, takeQuery, takeFrame, takeLine, brokenLine, holding, takeByte, owing, endOfInput}
 use Rattle.district.specs.Reader.{Lists, lists, toldBy, fileOf, Counted, Roomy, Kept, Beyond, Stepped, startReader, ownVerdict}
 use Rattle.district.specs.Inner.{SteppedOver, SteppedArcs, SteppedPotentials, NotLast, PotentialsOpen, AllRead, owesBy}
 
@@ -71,18 +71,18 @@ pub beyond-same : (r : Reader) (l : Lists) → Beyond r l l
 beyond-same r l = record { line = refl; tails = refl; heads = refl; weights = refl; forward = refl; backward = refl }
 
 -- what is promised of a step is promised of one that is equal to it
-pub stepped-as : {s s′ : Step} {t : Taken} {l after : Lists} {room room′ : List ℕ} → s ≡ s′ → Stepped s t l after room room′ → Stepped s′ t l after room room′
-stepped-as {s} {s′} {t} {l} {after} {room} {room′} e h = subst (λ (x : Step). Stepped x t l after room room′) e h
+pub stepped-as : {s s′ : FileStep} {t : Taken} {l after : Lists} {room room′ : List ℕ} → s ≡ s′ → Stepped s t l after room room′ → Stepped s′ t l after room room′
+stepped-as {s} {s′} {t} {l} {after} {room} {room′} e h = subst (λ (x : FileStep). Stepped x t l after room room′) e h
 
-pub over-as : {s s′ : File → Step} {r : Reader} {t : Taken} {room room′ : List ℕ} → ((l : Lists) → Kept r l → s (fileOf r l) ≡ s′ (fileOf r l))
+pub over-as : {s s′ : File → FileStep} {r : Reader} {t : Taken} {room room′ : List ℕ} → ((l : Lists) → Kept r l → s (fileOf r l) ≡ s′ (fileOf r l))
     → SteppedOver s r t room room′ → SteppedOver s′ r t room room′
 over-as e h = record { law = λ l k. stepped-as (e l k) (h .law l k) }
 
-pub over-arcs : {s : File → Step} {r : Reader} {t : Taken} {room room′ : List ℕ} (tails heads weights : List ℕ) → SteppedOver s r t room room′
+pub over-arcs : {s : File → FileStep} {r : Reader} {t : Taken} {room room′ : List ℕ} (tails heads weights : List ℕ) → SteppedOver s r t room room′
     → SteppedArcs s r t tails heads weights tails heads weights room room′
 over-arcs tails heads weights h = record { law = λ line f b k. h .law (lists line tails heads weights f b) k }
 
-pub over-potentials : {s : File → Step} {r : Reader} {t : Taken} {room room′ : List ℕ} (tails heads weights : List ℕ) (f b : List ℤ) → SteppedOver s r t room room′
+pub over-potentials : {s : File → FileStep} {r : Reader} {t : Taken} {room room′ : List ℕ} (tails heads weights : List ℕ) (f b : List ℤ) → SteppedOver s r t room room′
     → SteppedPotentials s r t tails heads weights f b f b room room′
 over-potentials tails heads weights f b h = record { law = λ line k. h .law (lists line tails heads weights f b) k }
 

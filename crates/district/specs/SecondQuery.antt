@@ -9,7 +9,7 @@ use lib.Dec.{eqb}
 use Rattle.frames.specs.declared.Frame.{Frame}
 use Rattle.frames.specs.declared.Frame.the-variants.{Size, Arc, TwoWay, Potentials, Query as QueryFrame, Unsound}
 use Rattle.frames.specs.AnswerLines.{lineFeed}
-use Rattle.district.specs.FileGiven.{lineCount, frameAfter, toldAfter, ComesTo}
+use Rattle.district.specs.FileGiven.{lineCount, frameAfter, toldAfter, TakenAfter, ComesTo}
 
 -- the frame is a sound 04
 abbrev pub isQuery : Frame → Bool
@@ -31,6 +31,12 @@ pub record SecondQueryAt (bytes : List ℕ) (n : ℕ) : Type 0 where
   pub comes : ComesTo false 1 bytes n
   pub again : AsksAgain bytes (comes .before)
   pub lowest : (j : ℕ) → j < comes .before → AsksAgain bytes j → ⊥
+
+-- a file refusal comes before the line after i line feeds: one of the lines before it is not taken
+pub record RefusedBefore (bytes : List ℕ) (i : ℕ) : Type 0 where
+  pub line : ℕ
+  pub before : line < i
+  pub not-taken : TakenAfter false 1 bytes line → ⊥
 
 -- the first lines of a file, so many of them, each with its line feed
 unfoldable pub firstLines : ℕ → List ℕ → List ℕ

@@ -2,20 +2,19 @@
 -- what `routeline` prints. Where one stands, it is answered what `routeline` prints for the file up to that line, and then 11
 -- there. The argument: a line is judged alike by both, unless it is a sound 04 after a query that was taken. Assumes nothing.
 use mathlib.Core.Path.{_≡_, refl, sym, ap, _∙_}
-use mathlib.Core.Bool.{Bool, true, false, cond, not, _&&_, and-false}
-use mathlib.Core.List.{List, [], _∷_, _++_, append-nil, append-assoc}
-use Prim.Native.Nat.{ℕ, zero, suc, _+_, _-_, _≤_, _<_}
+use mathlib.Core.Bool.{Bool, true, false, not, _&&_, and-false}
+use mathlib.Core.List.{List, [], _∷_, _++_, append-assoc}
+use Prim.Native.Nat.{ℕ, zero, suc, _+_, _≤_, _<_}
 use native.Mathlib.Omega.{arith}
-use native.Mathlib.Numerals.{add-one}
-use lib.Dec.{eqb, ltb, leb}
+use lib.Dec.{eqb, leb}
 use lib.ListN.{length, take, getD}
-use borrow.Author.Tests.{eqb-true, eqb-false, ltb-false, leb-true, leb-false}
+use borrow.Author.Tests.{ltb-false, leb-true}
 use Rattle.network.specs.declared.Cause.{Cause}
 use Rattle.network.specs.declared.Cause.the-variants.{MisplacedLine}
 use Rattle.network.specs.declared.Verdict.{Verdict}
 use Rattle.network.specs.declared.Verdict.the-variants.{Accepted, Refused}
 use Rattle.network.specs.declared.Answer.the-variants.{Refused as Refusal}
-use Rattle.network.specs.CaseSplit.{by-bool, by-lt, both-true, true≢false, tests}
+use Rattle.network.specs.CaseSplit.{by-bool, by-lt, both-true, true≢false}
 use Rattle.network.specs.Refusal.{given, firstRefusal}
 use Rattle.network.specs.RefusalLaws.{refused≢accepted}
 use Rattle.frames.specs.declared.Frame.{Frame}
@@ -26,8 +25,8 @@ use Rattle.district.specs.File.{Told, nothingTold, lastLine, wrongCause,
 use Rattle.district.specs.Lines.{Lines, beganWith, linesOf, sizeRead, arcsRead, potentialsRead, owedArcs, mayStand, sizeVerdict, frameVerdict, endVerdict, toldWith, printedFor, Outcome, thenOn, readLines, outcomeOf, refusalLine, printedOf}
 use Rattle.district.specs.LinesLaws.{file-by-lines}
 use Rattle.district.specs.FileGivenLaws.{accepted-taken, taken-accepted}
-use Rattle.district.specs.FileGiven.{lineCount, frameAfter, toldByLines, toldAfter, TakenAfter, ComesTo}
-use Rattle.district.specs.SecondQuery.{isQuery, AsksAgain, SecondQueryAt, firstLines}
+use Rattle.district.specs.FileGiven.{lineCount, toldByLines}
+use Rattle.district.specs.SecondQuery.{isQuery, AsksAgain, SecondQueryAt, RefusedBefore, firstLines}
 
 -- ---- one line
 module _ (n : ℕ) (t : Told) where
@@ -149,6 +148,7 @@ module _ (n : ℕ) (t : Told) (line : List ℕ) (more : List (List ℕ)) where
       taken : (j : ℕ) → j < suc i → frameVerdict false (n + j) (toldByLines t (take j (line ∷ more))) (frameOf (getD (line ∷ more) j [])) ≡ Accepted
       taken zero h = let e : n + 0 ≡ n = omega arith in rw e v
       taken (suc j) h = let e : n + suc j ≡ n + 1 + j = omega arith in rw e (s .taken j (omega arith))
+
       lowest : (j : ℕ) → j < suc i → AgainIn t (line ∷ more) j → ⊥
       lowest zero h a = first (a .query) (a .asked)
       lowest (suc j) h a = s .lowest j (omega arith) (again-later a)
@@ -324,13 +324,18 @@ module _ (bytes : List ℕ) where
   unfolding outcomeOf
   file-up-to i h = file-by-lines false 1 (firstLines i bytes) ∙ ap (λ (l : Lines). printedOf (readLines false 1 nothingTold (l .whole) (l .rest))) (first-lines bytes i h)
 
-  -- no second query line, or a file refusal before it: the display is answered what `routeline` prints
+  -- no second query line: the display is answered what `routeline` prints
   pub display-as-routeline : ((n : ℕ) → SecondQueryAt bytes n → ⊥) → displayAnswer bytes ≡ fileAnswer bytes
   display-as-routeline none = go file-parted
     where
       go : Parted 1 nothingTold (linesOf bytes .whole) (linesOf bytes .rest) → displayAnswer bytes ≡ fileAnswer bytes
       go (alike _ same) = file-read true ∙ (ap printedOf same ∙ sym (file-read false))
       go (second i s p) = absurd (none (1 + i) (second-at s))
+
+  -- so also where a file refusal comes before each line that asks again
+  pub display-refused-before : ((i : ℕ) → AsksAgain bytes i → RefusedBefore bytes i) → displayAnswer bytes ≡ fileAnswer bytes
+  display-refused-before h =
+      display-as-routeline (λ n s. let r : RefusedBefore bytes (s .comes .before) = h (s .comes .before) (s .again) in r .not-taken (s .comes .taken (r .line) (r .before)))
 
   -- a second query line: what `routeline` prints for the file up to it, and then 11 there
   pub display-up-to-second : {n : ℕ} (s : SecondQueryAt bytes n) → displayAnswer bytes ≡ fileAnswer (firstLines (s .comes .before) bytes) ++ answerLines (Refusal (MisplacedLine n)) []

@@ -15,9 +15,9 @@ use Rattle.frames.specs.declared.Frame.{Frame}
 use Rattle.frames.specs.declared.Frame.the-variants.{Size, Arc, TwoWay, Potentials, Query as QueryFrame, Unsound}
 use Rattle.frames.specs.Frame.{mostDigits, frameOf}
 use Rattle.frames.specs.AnswerLines.{lineFeed}
-use Rattle.district.specs.File.{Told, File, Step, step, lastLine, refused, taken, addedArcs, takeSize, takeArcs, takePotentials, queryLines, takeQuery, sizeOwed, arcsOwed, potentialsOwed, takeFrame, takeLine, brokenLine, holding, takeByte, owing, endOfInput}
+use Rattle.district.specs.File.{Told, File, FileStep, step, lastLine, refused, taken, addedArcs, takeSize, takeArcs, takePotentials, queryLines, takeQuery, sizeOwed, arcsOwed, potentialsOwed, takeFrame, takeLine, brokenLine, holding, takeByte, owing, endOfInput}
 
-module _ (f : File) (P : Step → Type 0) (on-refusal : (c : Cause) → P (refused f c)) where
+module _ (f : File) (P : FileStep → Type 0) (on-refusal : (c : Cause) → P (refused f c)) where
   -- a line that is broken is refused
   pub by-broken : P (brokenLine f)
   unfolding brokenLine
@@ -70,7 +70,7 @@ module _ (f : File) (P : Step → Type 0) (on-refusal : (c : Cause) → P (refus
         (λ _. cases P (potentialsOwed (f .told)) (λ _. by-potentials g) (λ _. by-query g))))
 
 -- a byte ends a line, is one more of it or one too many; or the file has ended
-pub by-byte : (f : File) (b : ℕ) (P : Step → Type 0) → (f .going ≡ true → P (takeLine f)) → P (step (holding f b) []) → (f .going ≡ true → P (brokenLine f)) → P (step f []) → P (takeByte f b)
+pub by-byte : (f : File) (b : ℕ) (P : FileStep → Type 0) → (f .going ≡ true → P (takeLine f)) → P (step (holding f b) []) → (f .going ≡ true → P (brokenLine f)) → P (step f []) → P (takeByte f b)
 unfolding takeByte
 by-byte f b P on-line on-held on-broken on-ended =
     cases P (f .going)
@@ -85,5 +85,5 @@ by-end f P on-nothing on-refusal =
     cases P (f .going)
     (λ goes. cases P (eqb (length (f .held)) 0)
     (λ _. cases P (owing (f .told)) (λ _. on-refusal goes (MisplacedLine (f .line))) (λ _. on-nothing))
-    (λ _. by-broken f (λ (s : Step). P (s .printed)) (on-refusal goes)))
+    (λ _. by-broken f (λ (s : FileStep). P (s .printed)) (on-refusal goes)))
     (λ _. on-nothing)

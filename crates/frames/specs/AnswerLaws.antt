@@ -29,7 +29,7 @@ Ranged (Route l n f) = (l < 4294967296) × (n < 65536) × RangedFigures f
 Ranged (NoRoute f) = RangedFigures f
 Ranged (Refused c) = placeOf c < 4294967296
 
-number-below-256 : (c : Cause) → numberOf c < 16 ^ 2
+pub number-below-256 : (c : Cause) → numberOf c < 16 ^ 2
 number-below-256 NodeCount = omega arith
 number-below-256 ArcLists = omega arith
 number-below-256 PotentialLists = omega arith

@@ -28,7 +28,7 @@ pub record Answers (f : File) (part : List ℕ) (a : Answered) (after : Lists) (
   pub shows : Shows f (take (a .taken) part) room (a .written)
 
 -- a part underway: so many bytes are taken, and their answers stand in the room, at most one a byte
-pub record Underway (f : File) (part : List ℕ) (r : Reader) (at : ℕ) (after : Lists) (room : List ℕ) (written : ℕ) : Type 0 where
+pub record PartUnderway (f : File) (part : List ℕ) (r : Reader) (at : ℕ) (after : Lists) (room : List ℕ) (written : ℕ) : Type 0 where
   pub within : at ≤ length part
   pub passes : Passes f (take at part) r after
   pub shows : Shows f (take at part) room written

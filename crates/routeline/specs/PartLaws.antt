@@ -20,12 +20,12 @@ use Rattle.district.specs.Reader.{Lists, fileOf, Roomy, Kept, Reached, Stepped,
 use Rattle.district.specs.ReaderLaws.{start-kept}
 use Rattle.district.specs.PrintLaws.{printed-fits}
 use Rattle.routeline.specs.declared.Answered.{Answered}
-use Rattle.routeline.specs.Part.{Passes, Answers, Underway, SameLengths}
+use Rattle.routeline.specs.Part.{Passes, Answers, PartUnderway, SameLengths}
 
 -- no byte is taken yet
-pub underway-start : (part : List ℕ) (r : Reader) (l : Lists) (room : List ℕ) → Kept r l → Underway (fileOf r l) part r 0 l room 0
+pub part-underway-start : (part : List ℕ) (r : Reader) (l : Lists) (room : List ℕ) → Kept r l → PartUnderway (fileOf r l) part r 0 l room 0
 unfolding feed
-underway-start part r l room k =
+part-underway-start part r l room k =
     record {
       within = omega arith;
       passes = record { file-is = refl; kept = k };
@@ -78,7 +78,7 @@ module _ (text room ys : List ℕ) (at count : ℕ) (h : at ≤ length room) (fi
   front-is = rw (home-is, take-at (take at room ++ text) _ (at + count) front-length)
 
 -- one byte more is taken
-module _ (f : File) (part : List ℕ) (r : Reader) (at : ℕ) (l : Lists) (room : List ℕ) (written : ℕ) (u : Underway f part r at l room written) (more : at < length part) (space : mostBytes ≤ length room - written) (t : Taken) (after : Lists) (ys : List ℕ) (s : Stepped (takeByte (fileOf r l) (getD part at 0)) t l after (take (length room - written) (drop written room)) ys) where
+module _ (f : File) (part : List ℕ) (r : Reader) (at : ℕ) (l : Lists) (room : List ℕ) (written : ℕ) (u : PartUnderway f part r at l room written) (more : at < length part) (space : mostBytes ≤ length room - written) (t : Taken) (after : Lists) (ys : List ℕ) (s : Stepped (takeByte (fileOf r l) (getD part at 0)) t l after (take (length room - written) (drop written room)) ys) where
   text : List ℕ
   text = takeByte (fileOf r l) (getD part at 0) .printed
 
@@ -86,9 +86,9 @@ module _ (f : File) (part : List ℕ) (r : Reader) (at : ℕ) (l : Lists) (room 
   unfolding text
   fits = omega (arith, printed-fits (fileOf r l) (getD part at 0) .bytes)
 
-  pub underway-more : Underway f part (t .reader) (at + 1) after (take written room ++ (ys ++ drop (length room - written) (drop written room))) (written + t .written)
+  pub part-underway-more : PartUnderway f part (t .reader) (at + 1) after (take written room ++ (ys ++ drop (length room - written) (drop written room))) (written + t .written)
   unfolding text home
-  underway-more =
+  part-underway-more =
       record {
         within = omega arith;
         passes = record { file-is = s .file-is ∙ rw (u .passes .file-is, feed-more f part at more); kept = s .kept };
@@ -107,8 +107,8 @@ module _ (f : File) (part : List ℕ) (r : Reader) (at : ℕ) (l : Lists) (room 
   more-length = home-length text room ys written (t .written) (u .shows .within) fits (s .room-is)
 
 -- what is taken of a part is answered
-pub underway-end : (f : File) (part : List ℕ) (a : Answered) (l : Lists) (room : List ℕ) → Underway f part (a .reader) (a .taken) l room (a .written) → (0 < length part → 0 < a .taken) → Answers f part a l room
-underway-end f part a l room u some = record { within = u .within; some = some; passes = u .passes; shows = u .shows }
+pub part-underway-end : (f : File) (part : List ℕ) (a : Answered) (l : Lists) (room : List ℕ) → PartUnderway f part (a .reader) (a .taken) l room (a .written) → (0 < length part → 0 < a .taken) → Answers f part a l room
+part-underway-end f part a l room u some = record { within = u .within; some = some; passes = u .passes; shows = u .shows }
 
 -- nothing has changed its length
 pub same-lengths : (l : Lists) (room : List ℕ) → SameLengths l l room room

@@ -36,14 +36,14 @@ same-left : {r r′ : Answer} {l l′ : LentLists} → left r l ≡ left r′ l�
 same-left e = (ap (λ (x : Left). x .answer) e, ap (λ (x : Left). x .lists) e)
 
 -- what is promised of a query admits one answer and one set of lists
-pub query-single : (q : Query) (before : LentLists) (r r′ : Answer) (after after′ : LentLists)
+pub query-one-answer : (q : Query) (before : LentLists) (r r′ : Answer) (after after′ : LentLists)
     → QueryKept q before after r → QueryKept q before after′ r′ → (r ≡ r′) × (after ≡ after′)
-query-single q before r r′ after after′ k k′ = same-left (k .leaves ∙ sym (k′ .leaves))
+query-one-answer q before r r′ after after′ k k′ = same-left (k .leaves ∙ sym (k′ .leaves))
 
 -- and so does what is promised of the search of an accepted query
-pub search-accepted-single : (q : Query) (before : LentLists) (r r′ : Answer) (after after′ : LentLists)
+pub search-accepted-one-answer : (q : Query) (before : LentLists) (r r′ : Answer) (after after′ : LentLists)
     → left r after ≡ searchLeaves q before → left r′ after′ ≡ searchLeaves q before → (r ≡ r′) × (after ≡ after′)
-search-accepted-single q before r r′ after after′ e f = same-left (e ∙ sym f)
+search-accepted-one-answer q before r r′ after after′ e f = same-left (e ∙ sym f)
 
 -- ---- the two cases of a verdict
 pub refused-left : (q : Query) (l : LentLists) {c : Cause} → queryVerdict q (lengths l) ≡ Refusal c → queried q l ≡ left (Refused c) l

@@ -71,7 +71,10 @@ pub fn old_byte(at: usize) -> u8 {
 /// Calls the entry with a room of `size` bytes; tells whether it wrote outside.
 pub fn show(entry: &mut Entry, file: &[u8], size: usize) -> Result<Shown, String> {
     let memory: Vec<u8> = (0..size + 2 * GUARD).map(old_byte).collect();
-    let called = entry.call(file, &memory, GUARD..GUARD + size).map_err(|error| format!("room of {size}: {error}"))?;
+    let called = entry.call(file, &memory, GUARD..GUARD + size).map_err(|error| {
+        let ended = entry.child.wait().map_or(String::new(), |status| format!(" ({status})"));
+        format!("room of {size}: no reply: {error}{ended}")
+    })?;
     if called.file != file {
         return Err("the display entry changed the file's bytes".into());
     }

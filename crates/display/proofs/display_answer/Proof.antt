@@ -1,7 +1,7 @@
 -- `display_answer` meets its contract: the gathered text is the answer, and it is placed where it fits. Assumes nothing.
 use mathlib.Core.Path.{sym}
 use native.Mathlib.Omega.{arith}
-use lib.Seq.{length-take-le}
+use lib.ListN.{length-take}
 use Rattle.district.specs.QueryLaws.{laid-front, placed-as}
 use Rattle.display.specs.GatherLaws.{display-bytes}
 use borrow.Author.Needs.{needs}
@@ -36,7 +36,7 @@ array-share-prefix-text : tie.Need-array-share-prefix-text
 array-share-prefix-text c = omega (arith, c .before .before .before .before .before .before .before .gather .ensures .count-is, display-bytes (c .before .before .before .before .before .before .before .before .before .before .before .before .before .before .before .before .before .args .file .now), c .before .before .before .before .before .before .before .gather .kept .1 .1 .1 .1 .1 .1 .1 .0)
 
 slice-aggregate-place : tie.Need-slice-aggregate-place
-slice-aggregate-place c = sym (length-take-le _ _ (omega (arith, c .before .before .before .before .before .before .before .before .gather .ensures .count-is, display-bytes (c .before .before .before .before .before .before .before .before .before .before .before .before .before .before .before .before .before .before .args .file .now), c .before .before .before .before .before .before .before .before .gather .kept .1 .1 .1 .1 .1 .1 .1 .0)))
+slice-aggregate-place c = simp length-take (omega (arith, c .before .before .before .before .before .before .before .before .gather .ensures .count-is, display-bytes (c .before .before .before .before .before .before .before .before .before .before .before .before .before .before .before .before .before .before .args .file .now), c .before .before .before .before .before .before .before .before .gather .kept .1 .1 .1 .1 .1 .1 .1 .0))
 
 place-requires : tie.Need-place-requires
 place-requires c κs = search needs

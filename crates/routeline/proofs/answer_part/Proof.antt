@@ -1,20 +1,21 @@
--- `routeline::answer_part` meets its contract. The loop's invariant is `Underway`: the bytes passed are taken as the definition
+-- `routeline::answer_part` meets its contract. The loop's invariant is `PartUnderway`: the bytes passed are taken as the definition
 -- says, and their answers stand at the front of the room. Each byte takes it one further. The measure is what is left of the
 -- part. Assumes nothing.
 use Prim.Native.Nat.{_-_, _<_}
 use mathlib.Core.Path.{_∙_}
 use native.Mathlib.Omega.{arith}
 use borrow.Author.Tests.{leb-true, leb-false}
-use lib.ListN.{length}
+use lib.ListN.{length, length-take, length-drop}
+use Rattle.frames.specs.RoomLaws.{placed-within}
 use Rattle.district.specs.Reader.{lists, fileOf, mostBytes}
-use Rattle.routeline.specs.Part.{Underway, SameLengths}
-use Rattle.routeline.specs.PartLaws.{underway-start, underway-more, underway-end, more-length, same-lengths}
+use Rattle.routeline.specs.Part.{PartUnderway, SameLengths}
+use Rattle.routeline.specs.PartLaws.{part-underway-start, part-underway-more, part-underway-end, more-length, same-lengths}
 use Rattle.routeline.proofs.answer_part.Statement.{statement}
 use Rattle.routeline.proofs.answer_part.Tie as tie
 
 abbrev Inv-loop : tie.InvT-loop
 Inv-loop part line₀ tails₀ heads₀ weights₀ forward₀ backward₀ room₀ here₀ at₀ written₀ line tails heads weights forward backward room here at written =
-    Underway (fileOf here₀ (lists line₀ tails₀ heads₀ weights₀ forward₀ backward₀)) part here at (lists line tails heads weights forward backward) room written
+    PartUnderway (fileOf here₀ (lists line₀ tails₀ heads₀ weights₀ forward₀ backward₀)) part here at (lists line tails heads weights forward backward) room written
     × SameLengths (lists line₀ tails₀ heads₀ weights₀ forward₀ backward₀) (lists line tails heads weights forward backward) room₀ room
 
 abbrev μ-loop : tie.MeasureT-loop
@@ -22,7 +23,7 @@ abbrev μ-loop : tie.MeasureT-loop
     length part - at
 
 loop-holds : tie.Need-loop-holds Inv-loop μ-loop
-loop-holds c = (underway-start _ _ _ _ (c .before .before .before .before .before .before .pre .0), same-lengths _ _)
+loop-holds c = (part-underway-start _ _ _ _ (c .before .before .before .before .before .before .pre .0), same-lengths _ _)
 
 sub-if1 : tie.Need-sub-if1 Inv-loop μ-loop
 sub-if1 c = omega (arith, c .before .loop .inv .0 .shows .within)
@@ -46,13 +47,13 @@ add-at : tie.Need-add-at Inv-loop μ-loop
 add-at c = omega (arith, c .before .before .before .before .before .before .before .before .before .before .before .before .before .before .before .before .before .before .before .before .before .before .before .loop-test .taken, c .before .before .before .before .before .before .before .before .before .before .before .before .before .before .before .before .before .before .before .before .before .before .before .before .before .before .before .before .before .before .before .good)
 
 add-written : tie.Need-add-written Inv-loop μ-loop
-add-written c = omega (arith, underway-more _ _ _ _ _ _ _ (c .before .before .before .before .before .before .before .before .before .before .before .before .before .before .before .before .before .before .before .before .before .before .before .before .before .loop .inv .0) (c .before .before .before .before .before .before .before .before .before .before .before .before .before .before .before .before .before .before .before .before .before .before .before .before .loop-test .taken) (leb-true _ _ (c .before .before .before .before .before .before .before .before .before .before .before .before .before .before .before .before .before .before .before .before .before .before .before .if1 .taken)) _ _ _ (c .before .before .before .before .before .before .before .before .before .before .before .before .before .before .take-byte .ensures) .shows .within, more-length _ _ _ _ _ _ _ (c .before .before .before .before .before .before .before .before .before .before .before .before .before .before .before .before .before .before .before .before .before .before .before .before .before .loop .inv .0) (c .before .before .before .before .before .before .before .before .before .before .before .before .before .before .before .before .before .before .before .before .before .before .before .before .loop-test .taken) (leb-true _ _ (c .before .before .before .before .before .before .before .before .before .before .before .before .before .before .before .before .before .before .before .before .before .before .before .if1 .taken)) _ _ _ (c .before .before .before .before .before .before .before .before .before .before .before .before .before .before .take-byte .ensures), c .before .before .before .before .before .before .before .before .before .before .before .before .before .before .before .before .before .before .before .before .before .before .before .before .before .loop .inv .1 .room-is, c .before .before .before .before .before .before .before .before .before .before .before .before .before .before .before .before .before .before .before .before .before .before .before .before .before .before .before .before .before .before .before .before .good)
+add-written c = omega (arith, c .before .before .before .before .before .before .before .before .before .before .before .before .before .before .before .before .before .before .before .before .before .before .before .before .before .loop .inv .0 .shows .within, c .before .before .before .before .before .before .before .before .before .before .before .before .before .before .before .before .before .before .before .before .before .before .before .before .before .loop .inv .1 .room-is, simp (length-take, length-drop) at (placed-within (c .before .before .before .before .before .before .before .before .before .before .before .before .before .before .take-byte .ensures .room-is)), c .before .before .before .before .before .before .before .before .before .before .before .before .before .before .before .before .before .before .before .before .before .before .before .before .before .before .before .before .before .before .before .before .good)
 
 loop-less : tie.Need-loop-less Inv-loop μ-loop
 loop-less c = omega (arith, c .before .before .before .before .before .before .before .before .before .before .before .before .before .before .before .before .before .before .before .before .before .before .before .before .loop-test .taken)
 
 loop-again : tie.Need-loop-again Inv-loop μ-loop
-loop-again c = (underway-more _ _ _ _ _ _ _ (c .before .before .before .before .before .before .before .before .before .before .before .before .before .before .before .before .before .before .before .before .before .before .before .before .before .loop .inv .0) (c .before .before .before .before .before .before .before .before .before .before .before .before .before .before .before .before .before .before .before .before .before .before .before .before .loop-test .taken) (leb-true _ _ (c .before .before .before .before .before .before .before .before .before .before .before .before .before .before .before .before .before .before .before .before .before .before .before .if1 .taken)) _ _ _ (c .before .before .before .before .before .before .before .before .before .before .before .before .before .before .take-byte .ensures), record { line = omega (arith, c .before .before .before .before .before .before .before .before .before .before .before .before .before .before .take-byte .kept, c .before .before .before .before .before .before .before .before .before .before .before .before .before .before .before .before .before .before .before .before .before .before .before .before .before .loop .inv .1 .line); tails = omega (arith, c .before .before .before .before .before .before .before .before .before .before .before .before .before .before .take-byte .kept, c .before .before .before .before .before .before .before .before .before .before .before .before .before .before .before .before .before .before .before .before .before .before .before .before .before .loop .inv .1 .tails); heads = omega (arith, c .before .before .before .before .before .before .before .before .before .before .before .before .before .before .take-byte .kept, c .before .before .before .before .before .before .before .before .before .before .before .before .before .before .before .before .before .before .before .before .before .before .before .before .before .loop .inv .1 .heads); weights = omega (arith, c .before .before .before .before .before .before .before .before .before .before .before .before .before .before .take-byte .kept, c .before .before .before .before .before .before .before .before .before .before .before .before .before .before .before .before .before .before .before .before .before .before .before .before .before .loop .inv .1 .weights); forward = omega (arith, c .before .before .before .before .before .before .before .before .before .before .before .before .before .before .take-byte .kept, c .before .before .before .before .before .before .before .before .before .before .before .before .before .before .before .before .before .before .before .before .before .before .before .before .before .loop .inv .1 .forward); backward = omega (arith, c .before .before .before .before .before .before .before .before .before .before .before .before .before .before .take-byte .kept, c .before .before .before .before .before .before .before .before .before .before .before .before .before .before .before .before .before .before .before .before .before .before .before .before .before .loop .inv .1 .backward); room-is = more-length _ _ _ _ _ _ _ (c .before .before .before .before .before .before .before .before .before .before .before .before .before .before .before .before .before .before .before .before .before .before .before .before .before .loop .inv .0) (c .before .before .before .before .before .before .before .before .before .before .before .before .before .before .before .before .before .before .before .before .before .before .before .before .loop-test .taken) (leb-true _ _ (c .before .before .before .before .before .before .before .before .before .before .before .before .before .before .before .before .before .before .before .before .before .before .before .if1 .taken)) _ _ _ (c .before .before .before .before .before .before .before .before .before .before .before .before .before .before .take-byte .ensures) ∙ c .before .before .before .before .before .before .before .before .before .before .before .before .before .before .before .before .before .before .before .before .before .before .before .before .before .loop .inv .1 .room-is })
+loop-again c = (part-underway-more _ _ _ _ _ _ _ (c .before .before .before .before .before .before .before .before .before .before .before .before .before .before .before .before .before .before .before .before .before .before .before .before .before .loop .inv .0) (c .before .before .before .before .before .before .before .before .before .before .before .before .before .before .before .before .before .before .before .before .before .before .before .before .loop-test .taken) (leb-true _ _ (c .before .before .before .before .before .before .before .before .before .before .before .before .before .before .before .before .before .before .before .before .before .before .before .if1 .taken)) _ _ _ (c .before .before .before .before .before .before .before .before .before .before .before .before .before .before .take-byte .ensures), record { line = omega (arith, c .before .before .before .before .before .before .before .before .before .before .before .before .before .before .take-byte .kept, c .before .before .before .before .before .before .before .before .before .before .before .before .before .before .before .before .before .before .before .before .before .before .before .before .before .loop .inv .1 .line); tails = omega (arith, c .before .before .before .before .before .before .before .before .before .before .before .before .before .before .take-byte .kept, c .before .before .before .before .before .before .before .before .before .before .before .before .before .before .before .before .before .before .before .before .before .before .before .before .before .loop .inv .1 .tails); heads = omega (arith, c .before .before .before .before .before .before .before .before .before .before .before .before .before .before .take-byte .kept, c .before .before .before .before .before .before .before .before .before .before .before .before .before .before .before .before .before .before .before .before .before .before .before .before .before .loop .inv .1 .heads); weights = omega (arith, c .before .before .before .before .before .before .before .before .before .before .before .before .before .before .take-byte .kept, c .before .before .before .before .before .before .before .before .before .before .before .before .before .before .before .before .before .before .before .before .before .before .before .before .before .loop .inv .1 .weights); forward = omega (arith, c .before .before .before .before .before .before .before .before .before .before .before .before .before .before .take-byte .kept, c .before .before .before .before .before .before .before .before .before .before .before .before .before .before .before .before .before .before .before .before .before .before .before .before .before .loop .inv .1 .forward); backward = omega (arith, c .before .before .before .before .before .before .before .before .before .before .before .before .before .before .take-byte .kept, c .before .before .before .before .before .before .before .before .before .before .before .before .before .before .before .before .before .before .before .before .before .before .before .before .before .loop .inv .1 .backward); room-is = more-length _ _ _ _ _ _ _ (c .before .before .before .before .before .before .before .before .before .before .before .before .before .before .before .before .before .before .before .before .before .before .before .before .before .loop .inv .0) (c .before .before .before .before .before .before .before .before .before .before .before .before .before .before .before .before .before .before .before .before .before .before .before .before .loop-test .taken) (leb-true _ _ (c .before .before .before .before .before .before .before .before .before .before .before .before .before .before .before .before .before .before .before .before .before .before .before .if1 .taken)) _ _ _ (c .before .before .before .before .before .before .before .before .before .before .before .before .before .before .take-byte .ensures) ∙ c .before .before .before .before .before .before .before .before .before .before .before .before .before .before .before .before .before .before .before .before .before .before .before .before .before .loop .inv .1 .room-is })
 
 same-length : tie.Need-same-length Inv-loop μ-loop
 same-length c = omega (arith, c .before .before .loop .inv .1 .line)
@@ -77,7 +78,7 @@ same-length-7 c = omega (arith, c .before .before .loop .inv .1 .room-is)
 
 returns : tie.Need-returns Inv-loop μ-loop
 returns c = let full : length (c .before .before .loop .room) - c .before .before .loop .written < mostBytes = leb-false _ _ (c .if1 .left) in
-    underway-end _ _ _ _ _ (c .before .before .loop .inv .0) (λ h. omega (arith, full, c .before .before .loop .inv .0 .few, c .before .before .before .before .before .before .before .before .before .pre .1, c .before .before .loop .inv .1 .room-is))
+    part-underway-end _ _ _ _ _ (c .before .before .loop .inv .0) (λ h. omega (arith, full, c .before .before .loop .inv .0 .few, c .before .before .before .before .before .before .before .before .before .pre .1, c .before .before .loop .inv .1 .room-is))
 
 same-length-8 : tie.Need-same-length-8 Inv-loop μ-loop
 same-length-8 c = omega (arith, c .before .loop .inv .1 .line)
@@ -101,7 +102,7 @@ same-length-14 : tie.Need-same-length-14 Inv-loop μ-loop
 same-length-14 c = omega (arith, c .before .loop .inv .1 .room-is)
 
 returns-2 : tie.Need-returns-2 Inv-loop μ-loop
-returns-2 c = underway-end _ _ _ _ _ (c .before .loop .inv .0) (λ h. omega (arith, c .loop-test .left))
+returns-2 c = part-underway-end _ _ _ _ _ (c .before .loop .inv .0) (λ h. omega (arith, c .loop-test .left))
 
 pub answer-part-spec : {M : Type 1} → statement M
 answer-part-spec =
