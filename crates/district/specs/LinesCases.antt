@@ -88,6 +88,6 @@ unfoldable pub asRead : LinesCase → LinesCase
 asRead c = record { single = c .single; first = c .first; given = c .given; verdict = outcomeOf (c .single) (c .first) (c .given) .verdict }
 
 -- every file is refused, or not, as expected
-pub files-asRead : map asRead cases ≡ cases
+pub files-judged : map asRead cases ≡ cases
 unfolding asRead outcomeOf readLines toldWith endVerdict frameVerdict mayStand linesOf frameOf ofKind queryOf potentialsOf arcOf sizeOf signedOf numberAt numberFrom areDigits valueOf firstRefusal
-files-asRead = refl
+files-judged = refl
