@@ -107,7 +107,7 @@ pub data Stands (bytes : List ℕ) (i : ℕ) : Type 0 where
 pub data Misplaced (single : Bool) (bytes : List ℕ) (n i : ℕ) : Type 0 where
   last : n ≡ lastLine → Stands bytes i → Misplaced single bytes n i
   not-there : i < lineCount bytes → frameAfter bytes i ≢ Unsound → mayStand single (toldAfter bytes i) (frameAfter bytes i) ≡ false → Misplaced single bytes n i
-  missing : i ≡ lineCount bytes → linesOf bytes .rest ≡ [] → owing (toldAfter bytes i) ≡ true → Misplaced single bytes n i
+  owed-there : i ≡ lineCount bytes → linesOf bytes .rest ≡ [] → owing (toldAfter bytes i) ≡ true → Misplaced single bytes n i
 
 -- 11: line n is come to, and stands where it may not or is missing
 pub record MisplacedAt (single : Bool) (first : ℕ) (bytes : List ℕ) (n : ℕ) : Type 0 where

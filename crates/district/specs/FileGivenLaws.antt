@@ -29,7 +29,7 @@ use Rattle.frames.specs.AnswerLines.{answerLines}
 use Rattle.district.specs.File.{Told, nothingTold, lastLine, wrongCause, sizeOwed, owing, answerFrom}
 use Rattle.district.specs.Lines.{linesOf, mayStand, badNodes, badArcs, sizeVerdict, frameVerdict, endVerdict, toldWith, Outcome, thenOn, readLines, outcomeOf}
 use Rattle.district.specs.LinesLaws.{file-by-lines}
-use Rattle.district.specs.FileGiven.{lineCount, frameAfter, toldByLines, toldAfter, printedByLines, printedAfter, TakenAfter, ComesTo, FirstSize, NoFrame, unsound, cut, whole, part, Misplaced, last, not-there, missing, TakenWhole, FileCondition, of-bad-nodes, of-bad-arcs, of-unsound-line, of-misplaced-line, FileGiven}
+use Rattle.district.specs.FileGiven.{lineCount, frameAfter, toldByLines, toldAfter, printedByLines, printedAfter, TakenAfter, ComesTo, FirstSize, NoFrame, unsound, cut, whole, part, Misplaced, last, not-there, owed-there, TakenWhole, FileCondition, of-bad-nodes, of-bad-arcs, of-unsound-line, of-misplaced-line, FileGiven}
 
 same-cause : {c d : Cause} → Refused c ≡ Refused d → c ≡ d
 same-cause {c} {d} e = cc
@@ -243,7 +243,7 @@ module _ (single : Bool) (first : ℕ) (bytes : List ℕ) where
     unfolding endVerdict mayStand
     end-given c h [] r e =
         by-bool (owing (toldAfter bytes i))
-        (λ o. subst (λ (x : Cause). FileGiven single first bytes x) (same-cause {c = MisplacedLine (first + i)} (rw o at e)) (record { comes = come (omega arith); misplaced = missing h r o }))
+        (λ o. subst (λ (x : Cause). FileGiven single first bytes x) (same-cause {c = MisplacedLine (first + i)} (rw o at e)) (record { comes = come (omega arith); misplaced = owed-there h r o }))
         (λ o. absurd (refused≢accepted (sym (rw o at e))))
     end-given c h (b ∷ rest) r e =
         let some : linesOf bytes .rest ≢ [] = λ z. omega (arith, ap length r, ap length z) in
@@ -312,7 +312,7 @@ module _ (single : Bool) (first : ℕ) (bytes : List ℕ) where
       row-line (k .before) h
       ∙ by-eq (first + k .before) lastLine (λ l. verdict-last single _ _ _ l ∙ rw (k .its-number))
       (λ l. verdict-wrong single _ _ _ l m ∙ rw (sound-misplaced (frameAfter bytes (k .before)) u (first + k .before), k .its-number))
-  misplaced-row {n} k (missing h r o) = row-end (k .before) h ∙ rw (r, o, k .its-number)
+  misplaced-row {n} k (owed-there h r o) = row-end (k .before) h ∙ rw (r, o, k .its-number)
 
   given-row : (c : Cause) → FileGiven single first bytes c → GivenRow c
   unfolding firstRefusal
