@@ -13,6 +13,7 @@ use Rattle.network.specs.declared.Cause.{Cause}
 use Rattle.network.specs.declared.Cause.the-variants.{NodeCount, ArcLists, UnsoundLine, MisplacedLine}
 use Rattle.network.specs.declared.Answer.the-variants.{Refused}
 use Rattle.network.specs.Network.{network, mostNodes, mostArcs}
+use Rattle.network.specs.Refusal.{roomFor}
 use Rattle.network.specs.Query.{Query, query}
 use Rattle.nba.specs.Search.{endState}
 use Rattle.nba.specs.Result.{pathOf, answerTo}
@@ -183,15 +184,7 @@ takePotentials f Unsound = wrong f Unsound
 -- ---- 04
 -- the lists that a query is lent have room for 2,048 entries each, so no query is refused for its room
 abbrev pub workRoom : Lent
-workRoom =
-    record {
-      «start_labels» = mostNodes;
-      «start_neighbours» = mostNodes;
-      «end_labels» = mostNodes;
-      «end_neighbours» = mostNodes;
-      states = mostNodes;
-      path = mostNodes;
-    }
+workRoom = roomFor mostNodes
 
 -- the lines of a query's answer, which may be a refusal (4, 5, 7, 8 or 9)
 unfoldable pub queryLines : Query → List ℕ

@@ -8,8 +8,6 @@ use mathlib.Core.Bool.{Bool, true, false}
 use mathlib.Core.List.{List, [], _∷_, _++_}
 use Prim.Native.Nat.{ℕ, _+_, _-_, _≤_, _<_}
 use lib.ListN.{length, take, getD}
-use Rattle.network.specs.declared.Cause.{Cause}
-use Rattle.network.specs.declared.Cause.the-variants.{NodeCount, ArcLists, PotentialLists, StartOrEnd, Pattern, Room, BadArc, BadPotential, Inconsistent, UnsoundLine, MisplacedLine}
 use Rattle.network.specs.declared.Verdict.the-variants.{Accepted}
 use Rattle.frames.specs.declared.Frame.{Frame}
 use Rattle.frames.specs.declared.Frame.the-variants.{Size, Unsound}
@@ -129,20 +127,6 @@ pub data FileCondition (single : Bool) (first : ℕ) (bytes : List ℕ) : ℕ �
   of-bad-arcs : ArcsRefused first bytes → FileCondition single first bytes 2 0
   of-unsound-line : {n : ℕ} → UnsoundAt single first bytes n → FileCondition single first bytes 10 n
   of-misplaced-line : {n : ℕ} → MisplacedAt single first bytes n → FileCondition single first bytes 11 n
-
--- the same by cause
-abbrev pub FileGiven : Bool → ℕ → List ℕ → Cause → Type 0
-FileGiven single first bytes NodeCount = NodesRefused first bytes
-FileGiven single first bytes ArcLists = ArcsRefused first bytes
-FileGiven single first bytes (UnsoundLine n) = UnsoundAt single first bytes n
-FileGiven single first bytes (MisplacedLine n) = MisplacedAt single first bytes n
-FileGiven single first bytes PotentialLists = ⊥
-FileGiven single first bytes StartOrEnd = ⊥
-FileGiven single first bytes Pattern = ⊥
-FileGiven single first bytes Room = ⊥
-FileGiven single first bytes (BadArc a) = ⊥
-FileGiven single first bytes (BadPotential v) = ⊥
-FileGiven single first bytes (Inconsistent a) = ⊥
 
 -- the numbers of a query's own refusals in a file: 4, 5, 7, 8 or 9
 pub record QueryNumber (n : ℕ) : Type 0 where

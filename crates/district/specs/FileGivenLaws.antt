@@ -29,7 +29,21 @@ use Rattle.frames.specs.AnswerLines.{answerLines}
 use Rattle.district.specs.File.{Told, nothingTold, lastLine, wrongCause, sizeOwed, owing, answerFrom}
 use Rattle.district.specs.Lines.{linesOf, mayStand, badNodes, badArcs, sizeVerdict, frameVerdict, endVerdict, toldWith, Outcome, thenOn, readLines, outcomeOf}
 use Rattle.district.specs.LinesLaws.{file-by-lines}
-use Rattle.district.specs.FileGiven.{lineCount, frameAfter, toldByLines, toldAfter, printedByLines, printedAfter, TakenAfter, ComesTo, FirstSize, NoFrame, unsound, cut, whole, part, Misplaced, last, not-there, owed-there, TakenWhole, FileCondition, of-bad-nodes, of-bad-arcs, of-unsound-line, of-misplaced-line, FileGiven}
+use Rattle.district.specs.FileGiven.{lineCount, frameAfter, toldByLines, toldAfter, printedByLines, printedAfter, TakenAfter, ComesTo, FirstSize, NodesRefused, ArcsRefused, UnsoundAt, MisplacedAt, NoFrame, unsound, cut, whole, part, Misplaced, last, not-there, owed-there, TakenWhole, FileCondition, of-bad-nodes, of-bad-arcs, of-unsound-line, of-misplaced-line}
+
+-- the table of a file's refusals by cause, as the proofs go through it
+abbrev pub GivenByCause : Bool → ℕ → List ℕ → Cause → Type 0
+GivenByCause single first bytes NodeCount = NodesRefused first bytes
+GivenByCause single first bytes ArcLists = ArcsRefused first bytes
+GivenByCause single first bytes (UnsoundLine n) = UnsoundAt single first bytes n
+GivenByCause single first bytes (MisplacedLine n) = MisplacedAt single first bytes n
+GivenByCause single first bytes PotentialLists = ⊥
+GivenByCause single first bytes StartOrEnd = ⊥
+GivenByCause single first bytes Pattern = ⊥
+GivenByCause single first bytes Room = ⊥
+GivenByCause single first bytes (BadArc a) = ⊥
+GivenByCause single first bytes (BadPotential v) = ⊥
+GivenByCause single first bytes (Inconsistent a) = ⊥
 
 same-cause : {c d : Cause} → Refused c ≡ Refused d → c ≡ d
 same-cause {c} {d} e = cc
@@ -202,13 +216,13 @@ module _ (single : Bool) (first : ℕ) (bytes : List ℕ) where
 
     -- a line that is refused
     module _ (h : i < lineCount bytes) where
-      wrong-given : first + i ≢ lastLine → mayStand single (toldAfter bytes i) (frameAfter bytes i) ≡ false → FileGiven single first bytes (wrongCause (frameAfter bytes i) (first + i))
+      wrong-given : first + i ≢ lastLine → mayStand single (toldAfter bytes i) (frameAfter bytes i) ≡ false → GivenByCause single first bytes (wrongCause (frameAfter bytes i) (first + i))
       wrong-given l m =
           by-sound (frameAfter bytes i)
           (λ u. rw u (record { comes = come (omega arith); numbered = l; no-frame = unsound h u }))
           (λ s. rw (sound-misplaced (frameAfter bytes i) s (first + i)) (record { comes = come (omega arith); misplaced = not-there h s m }))
 
-      counts-given : (c : Cause) (g : Frame) → frameAfter bytes i ≡ g → first + i ≢ lastLine → mayStand single (toldAfter bytes i) g ≡ true → sizeVerdict g ≡ Refused c → FileGiven single first bytes c
+      counts-given : (c : Cause) (g : Frame) → frameAfter bytes i ≡ g → first + i ≢ lastLine → mayStand single (toldAfter bytes i) g ≡ true → sizeVerdict g ≡ Refused c → GivenByCause single first bytes c
       unfolding mayStand firstRefusal
       counts-given c (Size a b) e l m s =
           let z : i ≡ 0 = size-once i (omega arith) taken m in
@@ -219,9 +233,9 @@ module _ (single : Bool) (first : ℕ) (bytes : List ℕ) where
             arcs = b;
             frame = subst (λ (k : ℕ). frameAfter bytes k ≡ Size a b) z e;
           } in
-          by-bool (badNodes a) (λ p. subst (λ (x : Cause). FileGiven single first bytes x) (same-cause {c = NodeCount} (rw p at s)) (record { size = size; bad = p }))
+          by-bool (badNodes a) (λ p. subst (λ (x : Cause). GivenByCause single first bytes x) (same-cause {c = NodeCount} (rw p at s)) (record { size = size; bad = p }))
           (λ p. by-bool (badArcs b)
-          (λ q. subst (λ (x : Cause). FileGiven single first bytes x) (same-cause {c = ArcLists} (rw (p, q) at s)) (record { size = size; good = p; bad = q }))
+          (λ q. subst (λ (x : Cause). GivenByCause single first bytes x) (same-cause {c = ArcLists} (rw (p, q) at s)) (record { size = size; good = p; bad = q }))
           (λ q. absurd (refused≢accepted (sym (rw (p, q) at s)))))
       counts-given c (Arc a b w) e l m s = absurd (refused≢accepted (sym s))
       counts-given c (TwoWay a b w) e l m s = absurd (refused≢accepted (sym s))
@@ -229,32 +243,32 @@ module _ (single : Bool) (first : ℕ) (bytes : List ℕ) where
       counts-given c (QueryFrame a b k) e l m s = absurd (refused≢accepted (sym s))
       counts-given c Unsound e l m s = absurd (refused≢accepted (sym s))
 
-      line-given : (c : Cause) → frameVerdict single (first + i) (toldAfter bytes i) (frameAfter bytes i) ≡ Refused c → FileGiven single first bytes c
+      line-given : (c : Cause) → frameVerdict single (first + i) (toldAfter bytes i) (frameAfter bytes i) ≡ Refused c → GivenByCause single first bytes c
       line-given c e =
           by-eq (first + i) lastLine
-          (λ l. subst (λ (x : Cause). FileGiven single first bytes x) (same-cause (sym (verdict-last single _ _ _ l) ∙ e))
+          (λ l. subst (λ (x : Cause). GivenByCause single first bytes x) (same-cause (sym (verdict-last single _ _ _ l) ∙ e))
           (record { comes = come (omega arith); misplaced = last l (whole h) }))
           (λ l. by-bool (mayStand single (toldAfter bytes i) (frameAfter bytes i))
           (λ m. counts-given c (frameAfter bytes i) refl l m (sym (verdict-counts single _ _ _ l m) ∙ e))
-          (λ m. subst (λ (x : Cause). FileGiven single first bytes x) (same-cause (sym (verdict-wrong single _ _ _ l m) ∙ e)) (wrong-given l m)))
+          (λ m. subst (λ (x : Cause). GivenByCause single first bytes x) (same-cause (sym (verdict-wrong single _ _ _ l m) ∙ e)) (wrong-given l m)))
 
     -- the end of input
-    end-given : (c : Cause) → i ≡ lineCount bytes → (rest : List ℕ) → linesOf bytes .rest ≡ rest → endVerdict single (first + i) (toldAfter bytes i) rest ≡ Refused c → FileGiven single first bytes c
+    end-given : (c : Cause) → i ≡ lineCount bytes → (rest : List ℕ) → linesOf bytes .rest ≡ rest → endVerdict single (first + i) (toldAfter bytes i) rest ≡ Refused c → GivenByCause single first bytes c
     unfolding endVerdict mayStand
     end-given c h [] r e =
         by-bool (owing (toldAfter bytes i))
-        (λ o. subst (λ (x : Cause). FileGiven single first bytes x) (same-cause {c = MisplacedLine (first + i)} (rw o at e)) (record { comes = come (omega arith); misplaced = owed-there h r o }))
+        (λ o. subst (λ (x : Cause). GivenByCause single first bytes x) (same-cause {c = MisplacedLine (first + i)} (rw o at e)) (record { comes = come (omega arith); misplaced = owed-there h r o }))
         (λ o. absurd (refused≢accepted (sym (rw o at e))))
     end-given c h (b ∷ rest) r e =
         let some : linesOf bytes .rest ≢ [] = λ z. omega (arith, ap length r, ap length z) in
         by-eq (first + i) lastLine
-        (λ l. subst (λ (x : Cause). FileGiven single first bytes x) (same-cause (sym (verdict-last single _ _ _ l) ∙ e)) (record { comes = come (omega arith); misplaced = last l (part h some) }))
-        (λ l. subst (λ (x : Cause). FileGiven single first bytes x) (same-cause (sym (verdict-wrong single _ _ Unsound l refl) ∙ e)) (record { comes = come (omega arith); numbered = l; no-frame = cut h some }))
+        (λ l. subst (λ (x : Cause). GivenByCause single first bytes x) (same-cause (sym (verdict-last single _ _ _ l) ∙ e)) (record { comes = come (omega arith); misplaced = last l (part h some) }))
+        (λ l. subst (λ (x : Cause). GivenByCause single first bytes x) (same-cause (sym (verdict-wrong single _ _ Unsound l refl) ∙ e)) (record { comes = come (omega arith); numbered = l; no-frame = cut h some }))
 
-  refused-given : (c : Cause) → outcomeOf single first bytes .verdict ≡ Refused c → FileGiven single first bytes c
+  refused-given : (c : Cause) → outcomeOf single first bytes .verdict ≡ Refused c → GivenByCause single first bytes c
   refused-given c e = go (first-row rows (sym verdict-is ∙ e))
     where
-      go : FirstRow rows c → FileGiven single first bytes c
+      go : FirstRow rows c → GivenByCause single first bytes c
       go r =
           let taken : r .index ≤ lineCount bytes → (j : ℕ) → j < r .index → TakenAfter single first bytes j = λ w j h. accepted-taken j (sym (row-line j (omega arith)) ∙ r .before j h) in
           by-lt (r .index) (lineCount bytes) (λ h. line-given (r .index) (taken (omega arith)) h c (sym (row-line (r .index) h) ∙ r .refuses))
@@ -314,7 +328,7 @@ module _ (single : Bool) (first : ℕ) (bytes : List ℕ) where
       (λ l. verdict-wrong single _ _ _ l m ∙ rw (sound-misplaced (frameAfter bytes (k .before)) u (first + k .before), k .its-number))
   misplaced-row {n} k (owed-there h r o) = row-end (k .before) h ∙ rw (r, o, k .its-number)
 
-  given-row : (c : Cause) → FileGiven single first bytes c → GivenRow c
+  given-row : (c : Cause) → GivenByCause single first bytes c → GivenRow c
   unfolding firstRefusal
   given-row NodeCount g = size-row NodeCount (g .size) refl (rw (g .bad))
   given-row ArcLists g = size-row ArcLists (g .size) refl (rw (g .good, g .bad))
@@ -328,16 +342,16 @@ module _ (single : Bool) (first : ℕ) (bytes : List ℕ) where
   given-row (BadPotential v) g = absurd g
   given-row (Inconsistent a) g = absurd g
 
-  given-refused : (c : Cause) → FileGiven single first bytes c → outcomeOf single first bytes .verdict ≡ Refused c
+  given-refused : (c : Cause) → GivenByCause single first bytes c → outcomeOf single first bytes .verdict ≡ Refused c
   given-refused c g = let r : FirstRow rows c = given-row c g .row in verdict-is ∙ row-first rows (r .index) (r .refuses) (r .before)
 
   -- ---- exactly when
   -- a file is refused exactly when document 01 gives the refusal
-  pub file-refused-exactly-when : (c : Cause) → (outcomeOf single first bytes .verdict ≡ Refused c) ↔ FileGiven single first bytes c
+  pub file-refused-exactly-when : (c : Cause) → (outcomeOf single first bytes .verdict ≡ Refused c) ↔ GivenByCause single first bytes c
   file-refused-exactly-when c = (refused-given c, given-refused c)
 
   -- the same by number and place, which are those of the cause
-  condition-of : (c : Cause) → FileGiven single first bytes c → FileCondition single first bytes (numberOf c) (placeOf c)
+  condition-of : (c : Cause) → GivenByCause single first bytes c → FileCondition single first bytes (numberOf c) (placeOf c)
   condition-of NodeCount g = of-bad-nodes g
   condition-of ArcLists g = of-bad-arcs g
   condition-of (UnsoundLine n) g = of-unsound-line g
@@ -363,10 +377,10 @@ module _ (single : Bool) (first : ℕ) (bytes : List ℕ) where
   file-given-exactly-when number place = (λ r. refuses-condition r refl, condition-refuses)
 
   -- a file is read to its end exactly when document 01 gives none
-  pub file-accepted-exactly-when : (outcomeOf single first bytes .verdict ≡ Accepted) ↔ ((c : Cause) → FileGiven single first bytes c → ⊥)
+  pub file-accepted-exactly-when : (outcomeOf single first bytes .verdict ≡ Accepted) ↔ ((c : Cause) → GivenByCause single first bytes c → ⊥)
   file-accepted-exactly-when = (λ e c g. refused≢accepted (sym (given-refused c g) ∙ e), λ none. go none (outcomeOf single first bytes .verdict) refl)
     where
-      go : ((c : Cause) → FileGiven single first bytes c → ⊥) → (v : Verdict) → outcomeOf single first bytes .verdict ≡ v → outcomeOf single first bytes .verdict ≡ Accepted
+      go : ((c : Cause) → GivenByCause single first bytes c → ⊥) → (v : Verdict) → outcomeOf single first bytes .verdict ≡ v → outcomeOf single first bytes .verdict ≡ Accepted
       go none Accepted e = e
       go none (Refused c) e = absurd (none c (refused-given c e))
 
@@ -399,7 +413,7 @@ module _ (single : Bool) (first : ℕ) (bytes : List ℕ) where
   file-taken-whole = (accepted-whole, whole-accepted)
 
   -- no file has two refusals
-  pub file-refused-once : (c d : Cause) → FileGiven single first bytes c → FileGiven single first bytes d → c ≡ d
+  pub file-refused-once : (c d : Cause) → GivenByCause single first bytes c → GivenByCause single first bytes d → c ≡ d
   file-refused-once c d g h = same-cause (sym (given-refused c g) ∙ given-refused d h)
 
   -- ---- what is printed
@@ -416,11 +430,11 @@ module _ (single : Bool) (first : ℕ) (bytes : List ℕ) where
   accepted-answers e = prints-before (lineCount bytes) (λ j h. rows-accepted rows (sym verdict-is ∙ e) j) (λ z. omega arith)
 
   -- where a refusal is given: the answers of the queries on the lines before it, and then its FF line
-  pub file-refused-prints : (c : Cause) → FileGiven single first bytes c → answerFrom single first bytes ≡ printedAfter bytes (placeOf c - first) ++ answerLines (Refusal c) []
+  pub file-refused-prints : (c : Cause) → GivenByCause single first bytes c → answerFrom single first bytes ≡ printedAfter bytes (placeOf c - first) ++ answerLines (Refusal c) []
   file-refused-prints c g = file-by-lines single first bytes ∙ rw (given-refused c g, refused-answers c (given-row c g))
 
   -- where none is: the answers of all queries
-  pub file-accepted-prints : ((c : Cause) → FileGiven single first bytes c → ⊥) → answerFrom single first bytes ≡ printedAfter bytes (lineCount bytes)
+  pub file-accepted-prints : ((c : Cause) → GivenByCause single first bytes c → ⊥) → answerFrom single first bytes ≡ printedAfter bytes (lineCount bytes)
   file-accepted-prints none =
       let e : outcomeOf single first bytes .verdict ≡ Accepted = file-accepted-exactly-when .1 none in
       file-by-lines single first bytes ∙ rw (e, append-nil, accepted-answers e)

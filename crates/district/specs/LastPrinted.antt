@@ -10,7 +10,7 @@ use native.Mathlib.Omega.{arith}
 use lib.Dec.{eqb, ltb}
 use lib.ListN.{length, take, replicate, getD, length-append}
 use lib.Seq.{take-at, take-suc, getD-append-seam}
-use borrow.Author.Tests.{ne-eqb}
+use borrow.Author.Tests.{ne-eqb, not-true}
 use Rattle.network.specs.declared.Cause.{Cause}
 use Rattle.network.specs.declared.Cause.the-variants.{NodeCount, ArcLists, PotentialLists, StartOrEnd, Pattern, Room, BadArc, BadPotential, Inconsistent, UnsoundLine, MisplacedLine}
 use Rattle.network.specs.declared.Figures.{Figures}
@@ -34,9 +34,9 @@ use Rattle.frames.specs.AnswerLines.{lineFeed, lineOf, widthsOf, answerLines}
 use Rattle.frames.specs.AnswerLaws.{number-below-256, answer-determined}
 use Rattle.district.specs.File.{Told, nothingTold, lastLine, workRoom, queryLines, queryOn, answerFrom}
 use Rattle.district.specs.Lines.{linesOf, withoutFeed, toldWith, printedFor, outcomeOf}
-use Rattle.district.specs.FileGiven.{lineCount, frameAfter, toldByLines, toldAfter, printedByLines, lastPrinted, TakenAfter, TakenWhole, ComesTo, FileGiven, QueryNumber}
-use Rattle.district.specs.FileGivenLaws.{file-refused-exactly-when, file-accepted-exactly-when, file-taken-whole, file-refused-prints, file-accepted-prints}
-use Rattle.district.specs.QueryRefusals.{not-true, query-refused-with}
+use Rattle.district.specs.FileGiven.{lineCount, frameAfter, toldByLines, toldAfter, printedByLines, lastPrinted, TakenAfter, TakenWhole, ComesTo, QueryNumber}
+use Rattle.district.specs.FileGivenLaws.{GivenByCause, file-refused-exactly-when, file-accepted-exactly-when, file-taken-whole, file-refused-prints, file-accepted-prints}
+use Rattle.district.specs.QueryRefusals.{query-refused-with}
 
 -- ---- digits have no line feed in them
 free-append : (a b : List ℕ) → withoutFeed a ≡ true → withoutFeed b ≡ true → withoutFeed (a ++ b) ≡ true
@@ -214,7 +214,7 @@ module _ (single : Bool) (first : ℕ) (bytes : List ℕ) where
       (frame-none i h (λ j l. taken j (omega arith)) (getD (linesOf bytes .whole) i []) (frameAfter bytes i) refl))
 
   -- a file that is refused ends in its FF line
-  last-refused : (c : Cause) → FileGiven single first bytes c → lastPrinted (answerFrom single first bytes) ++ (lineFeed ∷ []) ≡ answerLines (Refusal c) []
+  last-refused : (c : Cause) → GivenByCause single first bytes c → lastPrinted (answerFrom single first bytes) ++ (lineFeed ∷ []) ≡ answerLines (Refusal c) []
   unfolding lastPrinted lineOf linesOf
   last-refused c g =
       let text : List ℕ = spelled (widthsOf (Refusal c)) (kindOf (Refusal c) ∷ valuesOf (Refusal c)) in
@@ -232,7 +232,7 @@ module _ (single : Bool) (first : ℕ) (bytes : List ℕ) where
       (λ h. absurd (k .taken (lastLine - first) (omega (arith, k .its-number)) .numbered (omega arith)))
       (λ h. h)
 
-  given-low : first ≤ lastLine → (c : Cause) → FileGiven single first bytes c → placeOf c ≤ lastLine
+  given-low : first ≤ lastLine → (c : Cause) → GivenByCause single first bytes c → placeOf c ≤ lastLine
   given-low low NodeCount g = omega arith
   given-low low ArcLists g = omega arith
   given-low low (UnsoundLine n) g = comes-low low (g .comes)
@@ -256,21 +256,21 @@ module _ (single : Bool) (first : ℕ) (bytes : List ℕ) where
       rw all (lines-none (lineCount bytes) (omega arith) (λ j h. whole .taken j h) .each (length before - 1))
 
   module _ (low : first ≤ lastLine) (c : Cause) (own : QueryNumber (numberOf c) → ⊥) (place : placeOf c ≤ lastLine) where
-    last-given : lastPrinted (answerFrom single first bytes) ++ (lineFeed ∷ []) ≡ answerLines (Refusal c) [] → FileGiven single first bytes c
+    last-given : lastPrinted (answerFrom single first bytes) ++ (lineFeed ∷ []) ≡ answerLines (Refusal c) [] → GivenByCause single first bytes c
     unfolding lineOf
     last-given h = go (outcomeOf single first bytes .verdict) refl
       where
-        go : (v : Verdict) → outcomeOf single first bytes .verdict ≡ v → FileGiven single first bytes c
+        go : (v : Verdict) → outcomeOf single first bytes .verdict ≡ v → GivenByCause single first bytes c
         go (Refused d) e =
-            let g : FileGiven single first bytes d = file-refused-exactly-when single first bytes d .0 e in
+            let g : GivenByCause single first bytes d = file-refused-exactly-when single first bytes d .0 e in
             let same : Refusal d ≡ Refusal c = answer-determined (Refusal d) (Refusal c) [] [] (omega (arith, given-low low d g)) (omega arith) (sym (last-refused d g) ∙ h) in
             let cause : d ≡ c = cc in
-            subst (λ (x : Cause). FileGiven single first bytes x) cause g
+            subst (λ (x : Cause). GivenByCause single first bytes x) cause g
         go Accepted e =
             let text : lastPrinted (answerFrom single first bytes) ≡ spelled (widthsOf (Refusal c)) (kindOf (Refusal c) ∷ valuesOf (Refusal c)) = same-text _ _ h in
             let none : NoFile (spelled (widthsOf (Refusal c)) (kindOf (Refusal c) ∷ valuesOf (Refusal c))) = subst (λ (x : List ℕ). NoFile x) text (last-accepted e) in
             absurd (own (subst (λ (n : ℕ). QueryNumber n) (refusal-number c) (none .law (refusal-kind c))))
 
     -- the last line printed is the FF line of c exactly when document 01 gives c of the file
-    pub file-ends-in-refusal : (lastPrinted (answerFrom single first bytes) ++ (lineFeed ∷ []) ≡ answerLines (Refusal c) []) ↔ FileGiven single first bytes c
+    pub file-ends-in-refusal : (lastPrinted (answerFrom single first bytes) ++ (lineFeed ∷ []) ≡ answerLines (Refusal c) []) ↔ GivenByCause single first bytes c
     file-ends-in-refusal = (last-given, last-refused c)

@@ -3,15 +3,15 @@
 -- are as long as they should be, and a query is lent room for the most nodes. Assumes nothing.
 use mathlib.Core.Path.{_≡_, refl, sym, ap, subst, _∙_}
 use mathlib.Core.Logic.{_≢_}
-use mathlib.Core.Bool.{Bool, true, false, not, _&&_}
+use mathlib.Core.Bool.{Bool, true, not, _&&_}
 use mathlib.Core.List.{List, [], _∷_, _++_, map}
 use Prim.Native.Nat.{ℕ, zero, suc, _+_, _≤_, _<_}
 use native.Mathlib.Omega.{arith}
 use lib.Dec.{eqb, ltb, leb}
 use lib.ListN.{length, length-append, length-map}
-use borrow.Author.Tests.{eq-eqb, ne-eqb, le-ltb, eqb-true, eqb-false, leb-true, ltb-true, ltb-false}
+use borrow.Author.Tests.{eq-eqb, ne-eqb, le-ltb, eqb-true, eqb-false, leb-true, ltb-true, ltb-false, not-true}
 use Rattle.network.specs.declared.Cause.{Cause}
-use Rattle.network.specs.declared.Cause.the-variants.{NodeCount, ArcLists, PotentialLists, StartOrEnd, Pattern, Room, BadArc, BadPotential, Inconsistent, UnsoundLine, MisplacedLine}
+use Rattle.network.specs.declared.Cause.the-variants.{NodeCount, ArcLists}
 use Rattle.network.specs.declared.Verdict.the-variants.{Accepted, Refused}
 use Rattle.network.specs.Answer.{numberOf, placeOf}
 use Rattle.network.specs.CaseSplit.{by-bool, both-true, true≢false}
@@ -38,11 +38,6 @@ record Fits (t : Told) : Type 0 where
   pub arcs-within : length (t .tails) ≤ t .arcs
   pub backward-long : length (t .backward) ≡ length (t .forward)
   pub nodes-within : length (t .forward) ≤ t .nodes
-
--- a test that is not passed fails
-pub not-true : (b : Bool) → not b ≡ true → b ≡ false
-not-true true h = sym h
-not-true false h = refl
 
 -- the counts of a 01 that is taken
 good-counts : (a b : ℕ) → sizeVerdict (Size a b) ≡ Accepted → (0 < a) × (a ≤ mostNodes) × (b ≤ mostArcs)

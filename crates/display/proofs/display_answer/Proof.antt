@@ -1,5 +1,4 @@
 -- `display_answer` meets its contract: the gathered text is the answer, and it is placed where it fits. Assumes nothing.
-use mathlib.Core.Path.{sym}
 use native.Mathlib.Omega.{arith}
 use lib.ListN.{length-take}
 use Rattle.district.specs.QueryLaws.{laid-front, placed-as}

@@ -14,7 +14,6 @@ use borrow.Author.Tests.{lt-ltb, le-ltb, le-leb, lt-leb, eq-eqb, ne-eqb}
 use Rattle.network.specs.declared.Figures.{Figures}
 use Rattle.network.specs.declared.Answer.{Answer}
 use Rattle.network.specs.declared.Answer.the-variants.{Route}
-use Rattle.network.specs.declared.Lent.{Lent}
 use Rattle.network.specs.declared.Verdict.the-variants.{Accepted}
 use Rattle.network.specs.Network.{start, end, Network, network, mostNodes, mostArcs, mostWeight, arcCount, near, weight, isArc}
 use Rattle.network.specs.Walk.{Step, Walk, here, step}
@@ -22,7 +21,7 @@ use Rattle.network.specs.WalkLaws.{walk-is}
 use Rattle.network.specs.Potential.{mostPotential, keepsRule}
 use Rattle.network.specs.PotentialLaws.{shift, shifted, potential-along-walk}
 use Rattle.network.specs.Query.{Query, query}
-use Rattle.network.specs.Refusal.{nowhere, lowest, badNodeCount, badArcLists, badPotentialLists, badStartOrEnd, badEntry, badPattern, badRoom, badArc, outOfRange, badPotential, breaksRule, listRows, tripRows, mapRows, firstRefusal, queryVerdict}
+use Rattle.network.specs.Refusal.{nowhere, lowest, roomFor, badNodeCount, badArcLists, badPotentialLists, badStartOrEnd, badEntry, badPattern, badRoom, badArc, outOfRange, badPotential, breaksRule, listRows, tripRows, mapRows, firstRefusal, queryVerdict}
 use Rattle.network.specs.LowestLaws.{passes-nowhere}
 use Rattle.network.specs.Shift.{up, low-pos, up-pos, up-within}
 use Rattle.network.specs.Given.{Sound}
@@ -55,17 +54,6 @@ chain n = network (suc n) (rising n 0) (rising n 1) (replicate n mostWeight)
 -- the query along a chain of n arcs, from its first node to its last, pattern 0
 unfoldable pub along : ℕ → Query
 along n = query (chain n) (falling (suc n)) (replicate (suc n) (pos 0)) 0 n (0 ∷ [])
-
--- lent lists with room for as many entries as there can be nodes
-abbrev pub ample : Lent
-ample = record {
-  «start_labels» = mostNodes;
-  «start_neighbours» = mostNodes;
-  «end_labels» = mostNodes;
-  «end_neighbours» = mostNodes;
-  states = mostNodes;
-  path = mostNodes;
-}
 
 -- ---- its entries
 rising-long : (n a : ℕ) → length (rising n a) ≡ n
@@ -145,7 +133,7 @@ module _ (n : ℕ) (few : n < mostNodes) where
   unfolding badStartOrEnd
   no-bad-start-or-end = rw (nodes-are, lt-leb (suc n) 0 (omega arith), lt-leb (suc n) n (omega arith))
 
-  no-bad-room : badRoom (chain n .nodes) ample ≡ false
+  no-bad-room : badRoom (chain n .nodes) (roomFor mostNodes) ≡ false
   unfolding badRoom
   no-bad-room = rw (nodes-are, le-ltb mostNodes (suc n) (omega arith))
 
@@ -186,7 +174,7 @@ module _ (n : ℕ) (few : n < mostNodes) where
   no-broken-rule =
       passes-nowhere (breaksRule (chain n) (falling (suc n)) (replicate (suc n) (pos 0))) (arcCount (chain n)) (λ a h. rule-fine a (omega (arith, arcs-are)))
 
-  pub along-accepted : queryVerdict (along n) ample ≡ Accepted
+  pub along-accepted : queryVerdict (along n) (roomFor mostNodes) ≡ Accepted
   unfolding queryVerdict listRows tripRows mapRows firstRefusal along
   along-accepted =
       rw (no-bad-node-count, no-bad-arc-lists, no-bad-potential-lists, no-bad-start-or-end, one-entry, no-bad-room, no-bad-arc, no-bad-potential, no-broken-rule)
@@ -210,7 +198,7 @@ module _ (n : ℕ) (few : n < mostNodes) where
   along-walk = let e : 0 + n ≡ n = omega arith in rw e at (walk-from 0 n (omega arith))
 
   along-sound : Sound (along n)
-  along-sound = accepted-sound (along n) ample along-accepted
+  along-sound = accepted-sound (along n) (roomFor mostNodes) along-accepted
 
   -- the first node's potential is the whole length, and the last one's is 0
   along-no-shorter : (l : ℕ) → WalkOfLength (along n) l → n * mostWeight ≤ l
@@ -230,7 +218,7 @@ pub record RouteOfLength (a : Answer) (l : ℕ) : Type 0 where
   pub answered : a ≡ Route l nodes figures
 
 -- the length answered along a chain is the number of its arcs times the top weight
-pub along-answered : (n : ℕ) → n < mostNodes → RouteOfLength (answerTo (along n) ample) (n * mostWeight)
+pub along-answered : (n : ℕ) → n < mostNodes → RouteOfLength (answerTo (along n) (roomFor mostNodes)) (n * mostWeight)
 unfolding answerTo found
 along-answered n few =
     let q = along n in
@@ -249,5 +237,5 @@ along-answered n few =
     (λ h. absurd (d .no-walk (no-route-answered q (endState q) h) (n * mostWeight) (along-walk n few)))
 
 -- the largest shortest length is 2,047,000,000, and the longest chain reaches it
-pub largest-reached : RouteOfLength (answerTo (along (mostNodes - 1)) ample) mostLength
+pub largest-reached : RouteOfLength (answerTo (along (mostNodes - 1)) (roomFor mostNodes)) mostLength
 largest-reached = along-answered (mostNodes - 1) (omega arith)
