@@ -4,8 +4,8 @@
     cases.py FOLDER
 
 For each case NAME.in, and what is expected of it: NAME.routeline (the program) and NAME.display (the C entry). The answers
-of P1 to P12 and of most bad inputs are written here by hand, from document 01; the rest come from expected.py, which is
-written from document 01 too. Where both are there they must agree. FOLDER/names lists the cases in order."""
+of P1 to P12 and of most bad inputs are written here by hand, from the rules (docs/RULES.md); the rest come from expected.py, which
+is written from them too. Where both are there they must agree. FOLDER/names lists the cases in order."""
 import os
 import sys
 
@@ -156,7 +156,7 @@ def main(folder):
         by_hand = program, display if display is not None else program
         for said, hand in zip(says, by_hand):
             if hand is not None and said != hand:
-                print("cases: %s: expected.py says\n%sand document 01\n%s" % (name, said, hand))
+                print("cases: %s: expected.py says\n%sand by hand it is\n%s" % (name, said, hand))
                 wrong += 1
         base = os.path.join(folder, name if name.startswith("cut/") else "%02d" % number)
         for ending, what in ((".in", data), (".routeline", says[0].encode()), (".display", says[1].encode())):

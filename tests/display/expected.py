@@ -1,10 +1,10 @@
 #!/usr/bin/env python3
-"""The answer lines of a district file, written from document 01 alone.
+"""The answer lines of a district file, written from the buyer's rules alone, which docs/RULES.md restates.
 
     expected.py [--display] < FILE
 
 Without --display: what `routeline` prints. With it: what the display gets, whose file may have one query only.
-It is made to be read beside document 01 and knows nothing of the proved code: labels are None where they are missing,
+It is made to be read beside docs/RULES.md and knows nothing of the proved code: labels are None where they are missing,
 a line is matched by a regular expression, and the search keeps its two sides in small dictionaries."""
 import re
 import sys

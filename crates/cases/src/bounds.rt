@@ -1,5 +1,5 @@
-// Queries that are tested and not searched: sizes at document 01's bounds and beyond them, and lists that are too short.
-// Each is one line, its name and what the refusal table says.
+// Queries that are tested and not searched: sizes at the bounds (docs/RULES.md, "The network and a query") and beyond them,
+// and lists that are too short. Each is one line, its name and what the refusal table says.
 use crate::show;
 use network::Lent;
 

@@ -1,4 +1,4 @@
-// Lines of district frames: the input lines of document 01 in words, and the answer lines of a query.
+// Lines of district frames (docs/RULES.md, "District frames"): input lines in words, and the answer lines of a query.
 use crate::show;
 use frames::Frame;
 use network::Answer;
@@ -56,7 +56,7 @@ fn line(bytes: &[u8]) {
     }
 }
 
-// District D5, the input of document 01.
+// The input of docs/RULES.md, "District D5".
 fn district() {
     line(b"0100050005");
     line(b"020000000100000001");

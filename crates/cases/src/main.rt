@@ -1,4 +1,4 @@
-// The cases of document 01, run: P1 to P12, those that are run and not proved, and its own lines of district frames. What
+// The cases (docs/RULES.md, "Cases"), run: P1 to P12, those that are run and not proved, and lines of district frames. What
 // the program writes is compared with the file `stdout`; what that says of P1 to P12 an independent program reckons too.
 mod bounds;
 mod lines;

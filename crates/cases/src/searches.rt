@@ -1,6 +1,6 @@
-// Searches: P1 to P12 of document 01, each with its answer, its path, the tables that it leaves and its answer lines; and
-// the largest shortest length. The lent lists are longer than the node count, and hold what is no label, node or state of
-// these cases, so that an entry that was written where it may not be is seen.
+// Searches: P1 to P12 (docs/RULES.md, "Cases"), each with its answer, its path, the tables that it leaves and its answer
+// lines; and the largest shortest length. The lent lists are longer than the node count, and hold what is no label, node or
+// state of these cases, so that an entry that was written where it may not be is seen.
 use crate::lines;
 use crate::show;
 use network::Answer;

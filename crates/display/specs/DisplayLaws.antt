@@ -1,4 +1,4 @@
--- What the display's entry promises, in document 01's words: lines that fit stand at the front of the room, the count is theirs,
+-- What the display's entry promises (docs/RULES.md, "The display"): lines that fit stand at the front of the room, the count is theirs,
 -- and the bytes beyond them are unchanged; lines that do not fit leave the room unchanged, and the count is 0. Nothing else is
 -- admitted. And what the header says of the count: 0 means only that the lines do not fit, any other count is at least 13, and
 -- there is a room that always suffices. Assumes nothing.

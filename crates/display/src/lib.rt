@@ -1,4 +1,4 @@
-// The entry for the unit's display, which is written in C (document 01, "District frames"); include/display.h is its header.
+// The entry for the unit's display, which is written in C (docs/RULES.md, "The display"); include/display.h is its header.
 // The display hands over the bytes of a district file with one query and the room for the answer, and gets back how many bytes
 // were written. The contract says the room and the count for every file and every room. What the lines say is settled by
 // `district`, byte by byte; here they are gathered, and put into the room if they all fit.

@@ -210,10 +210,10 @@ query-files =
     ∷ file (lone ++ ("0400010000010" ∷ "" ∷ query ∷ [])) ("FF0400000000" ∷ "FF0A00000004" ∷ [])
     ∷ []
 
--- ---- whole files of document 01, and two-way links
+-- ---- whole files of docs/RULES.md, "Cases", and two-way links
 abbrev whole-files : List Case
 whole-files =
-    -- district D5 with the query of P1, as document 01 has it, and then those of P4, P2 and P3: who goes on in the pattern where
+    -- district D5 with the query of P1, as the rules have it, and then those of P4, P2 and P3: who goes on in the pattern where
     -- the query before left it answers P4 with 0 and 1 opened, and who goes on with its tables answers P4 otherwise
     file
     ("0100050005"

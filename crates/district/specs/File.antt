@@ -1,4 +1,4 @@
--- A district file, from its bytes to the bytes of its answer (document 01, "District frames"): which frame may stand where,
+-- A district file, from its bytes to the bytes of its answer (docs/RULES.md, "Input order"): which frame may stand where,
 -- what each adds, which refusal comes first, and what the end of input means. The file is read one byte at a time, so it does
 -- not matter in what pieces the bytes come. Lines has the same file in a shorter reading, line by line, and LinesLaws proves that
 -- both print the same. Definitions only; their laws are in FileLaws. Assumes nothing.

@@ -1,4 +1,4 @@
--- "Given exactly when" for the refusals of a file (document 01, the table's numbers 1, 2, 10 and 11, and "District frames"),
+-- "Given exactly when" for the refusals of a file, 1, 2, 10 and 11 (docs/RULES.md, "Input order"),
 -- each with its line. Lines are counted by what stands before them: after i line feeds stands the line with number first + i.
 -- Definitions only; FileGivenLaws proves them of a file's outcome, both ways, and of what it prints; QueryRefusals tells the
 -- refusals of queries from them; and LastPrinted proves them of the last line that a file prints. Assumes nothing.

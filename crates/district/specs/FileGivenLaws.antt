@@ -1,7 +1,7 @@
--- "Given exactly when" for the refusals of a file: its outcome is a refusal exactly when document 01's table and rules give that
--- refusal, and no refusal exactly when they give none. The argument: a file's verdict is the first refusal among the verdicts on
--- its lines and on its end, each taken where all lines before it are; and the verdict on a line is read off its three tests.
--- Assumes nothing.
+-- "Given exactly when" for the refusals of a file: its outcome is a refusal exactly when the rules (docs/RULES.md, "Input order")
+-- give that refusal, and no refusal exactly when they give none. The argument: a file's verdict is the first refusal among the
+-- verdicts on its lines and on its end, each taken where all lines before it are; and the verdict on a line is read off its
+-- three tests. Assumes nothing.
 use mathlib.Core.Path.{_≡_, refl, sym, ap, subst, _∙_}
 use mathlib.Core.Logic.{_↔_, _≢_}
 use mathlib.Core.Bool.{Bool, true, false}
@@ -346,7 +346,7 @@ module _ (single : Bool) (first : ℕ) (bytes : List ℕ) where
   given-refused c g = let r : FirstRow rows c = given-row c g .row in verdict-is ∙ row-first rows (r .index) (r .refuses) (r .before)
 
   -- ---- exactly when
-  -- a file is refused exactly when document 01 gives the refusal
+  -- a file is refused exactly when the rules give the refusal
   pub file-refused-exactly-when : (c : Cause) → (outcomeOf single first bytes .verdict ≡ Refused c) ↔ GivenByCause single first bytes c
   file-refused-exactly-when c = (refused-given c, given-refused c)
 
@@ -376,7 +376,7 @@ module _ (single : Bool) (first : ℕ) (bytes : List ℕ) where
   pub file-given-exactly-when : (number place : ℕ) → Refuses (outcomeOf single first bytes .verdict) number place ↔ FileCondition single first bytes number place
   file-given-exactly-when number place = (λ r. refuses-condition r refl, condition-refuses)
 
-  -- a file is read to its end exactly when document 01 gives none
+  -- a file is read to its end exactly when the rules give none
   pub file-accepted-exactly-when : (outcomeOf single first bytes .verdict ≡ Accepted) ↔ ((c : Cause) → GivenByCause single first bytes c → ⊥)
   file-accepted-exactly-when = (λ e c g. refused≢accepted (sym (given-refused c g) ∙ e), λ none. go none (outcomeOf single first bytes .verdict) refl)
     where

@@ -1,6 +1,6 @@
--- The last line that a file prints is the FF line of 1, 2, 10 or 11 exactly when document 01 gives that refusal of the file. The
--- argument: printed lines are digits between line feeds; no line that is printed for a query is an FF line with such a number;
--- and the FF line of a refusal determines it. Assumes nothing.
+-- The last line that a file prints is the FF line of 1, 2, 10 or 11 exactly when the rules (docs/RULES.md, "Input order") give
+-- that refusal of the file. The argument: printed lines are digits between line feeds; no line that is printed for a query is an
+-- FF line with such a number; and the FF line of a refusal determines it. Assumes nothing.
 use mathlib.Core.Path.{_≡_, refl, sym, ap, subst, _∙_}
 use mathlib.Core.Logic.{_↔_}
 use mathlib.Core.Bool.{Bool, true, not, _&&_}
@@ -271,6 +271,6 @@ module _ (single : Bool) (first : ℕ) (bytes : List ℕ) where
             let none : NoFile (spelled (widthsOf (Refusal c)) (kindOf (Refusal c) ∷ valuesOf (Refusal c))) = subst (λ (x : List ℕ). NoFile x) text (last-accepted e) in
             absurd (own (subst (λ (n : ℕ). QueryNumber n) (refusal-number c) (none .law (refusal-kind c))))
 
-    -- the last line printed is the FF line of c exactly when document 01 gives c of the file
+    -- the last line printed is the FF line of c exactly when the rules give c of the file
     pub file-ends-in-refusal : (lastPrinted (answerFrom single first bytes) ++ (lineFeed ∷ []) ≡ answerLines (Refusal c) []) ↔ GivenByCause single first bytes c
     file-ends-in-refusal = (last-given, last-refused c)

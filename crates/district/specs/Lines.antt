@@ -1,4 +1,4 @@
--- A district file by its lines (document 01, "District frames"): its bytes are parted at the line feeds, each whole line is
+-- A district file by its lines (docs/RULES.md, "Input order"): its bytes are parted at the line feeds, each whole line is
 -- judged in turn by its number and by what the lines before it told, and then the end of input. This is the short reading of a
 -- file; File reads the same file byte by byte, as the code does, and LinesLaws proves that the two print the same for all bytes.
 -- Definitions only. Assumes nothing.

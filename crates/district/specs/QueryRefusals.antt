@@ -1,4 +1,4 @@
--- The FF of a query in a file is 4, 5, 7, 8 or 9 (document 01, "District frames"), so its number tells it from the FF of a file
+-- The FF of a query in a file is 4, 5, 7, 8 or 9 (docs/RULES.md, "The program"), so its number tells it from the FF of a file
 -- refusal, which is 1, 2, 10 or 11. The argument: what lines that are taken tell has the counts that the 01 stated and lists that
 -- are as long as they should be, and a query is lent room for the most nodes. Assumes nothing.
 use mathlib.Core.Path.{_≡_, refl, sym, ap, subst, _∙_}

@@ -50,7 +50,7 @@ fileOf r l =
 
 -- a reader's counts fit together
 pub record Counted (r : Reader) : Type 0 where
-  -- no more is counted than the 01 states, nothing is stated before it, and what it states is within document 01's bounds
+  -- no more is counted than the 01 states, nothing is stated before it, and what it states is within the bounds of a network
   pub arcs-within : r .«arcs_read» ≤ r .arcs
   pub few-arcs : r .arcs ≤ mostArcs
   pub nodes-within : r .«nodes_read» ≤ r .nodes

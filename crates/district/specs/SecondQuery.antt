@@ -1,6 +1,6 @@
--- The second query line of a file (document 01: the display hands over a file with exactly one query, and a second query line is
--- 11): which line that is, and the bytes of the file before it. Definitions only; SecondQueryLaws says what the display is
--- answered. Assumes nothing.
+-- The second query line of a file (docs/RULES.md, "The display": it hands over a file with exactly one query, and a second
+-- query line is 11): which line that is, and the bytes of the file before it. Definitions only; SecondQueryLaws says what the
+-- display is answered. Assumes nothing.
 use mathlib.Core.Path.{_≡_}
 use mathlib.Core.Bool.{Bool, true, false, cond}
 use mathlib.Core.List.{List, [], _∷_}

@@ -1,4 +1,4 @@
-// A district file, byte by byte (document 01, "District frames"). A small reader goes by value from step to step, and the lists
+// A district file, byte by byte (docs/RULES.md, "Input order"). A small reader goes by value from step to step, and the lists
 // that hold the line and the network are lent to each step and kept between them. A query is answered as soon as its line
 // ends. What a file is answered is defined in specs/File.antt; each step here does what that definition says.
 ghost use mathlib.Core.Path.{_≡_};

@@ -1,4 +1,4 @@
--- The lines of an answer (document 01's table of kinds), each with its line feed. Kinds and values are those that the
+-- The lines of an answer (docs/RULES.md, "District frames"), each with its line feed. Kinds and values are those that the
 -- crate `network` gives to each case of an answer. Definitions only; their laws are in AnswerLaws. Assumes nothing.
 use mathlib.Core.List.{List, [], _∷_, _++_}
 use Prim.Native.Nat.{ℕ}

@@ -1,4 +1,4 @@
--- Digits and the numbers that they spell (document 01, "District frames"): upper-case hexadecimal, highest digit first.
+-- Digits and the numbers that they spell (docs/RULES.md, "District frames"): upper-case hexadecimal, highest digit first.
 -- Definitions only; their laws are in DigitLaws and FieldLaws. Assumes nothing.
 use mathlib.Core.Path.{_≡_}
 use mathlib.Core.Bool.{Bool, cond, true, false}

@@ -1,4 +1,4 @@
--- What an input line says (document 01's table of kinds): a kind of two digits, then fields of fixed width, highest digit
+-- What an input line says (docs/RULES.md, "District frames"): a kind of two digits, then fields of fixed width, highest digit
 -- first, in a line of upper-case digits and of exactly the length that its kind has. Any other line is no sound frame.
 -- Definitions only; their laws are in FrameCases and FrameLaws. Assumes nothing.
 use mathlib.Core.Bool.{Bool, cond, true, false}

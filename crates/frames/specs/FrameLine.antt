@@ -1,5 +1,5 @@
--- The line that spells a frame: the writer's side of document 01's table of input kinds. No contract cites it; the laws use
--- it to say that nothing is lost between a frame and its line. Definitions only. Assumes nothing.
+-- The line that spells a frame: the writer's side of the table of input kinds (docs/RULES.md, "District frames"). No contract
+-- cites it; the laws use it to say that nothing is lost between a frame and its line. Definitions only. Assumes nothing.
 use mathlib.Core.Path.{_≡_}
 use mathlib.Core.List.{List, [], _∷_, _++_, map}
 use Prim.Native.Nat.{ℕ, _<_}

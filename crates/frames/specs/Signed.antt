@@ -1,4 +1,4 @@
--- Two's complement in 32 bits, both ways (document 01: "negative numbers in two's complement").
+-- Two's complement in 32 bits, both ways, for the signed fields of docs/RULES.md, "District frames".
 -- Definitions only; their law is in SignedLaws. Assumes nothing.
 use mathlib.Core.Bool.{cond}
 use Prim.Native.Nat.{ℕ, _-_}

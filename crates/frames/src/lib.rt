@@ -1,4 +1,4 @@
-// District frames, one line at a time (document 01, "District frames"). A line of upper-case hexadecimal digits is
+// District frames, one line at a time (docs/RULES.md, "District frames"). A line of upper-case hexadecimal digits is
 // decoded to the frame that it spells, and an answer is written as its lines. This crate knows digits, fields and single
 // lines; what may follow what is not its matter. A line is taken here without its line feed and written with it.
 ghost use mathlib.Core.Path.{_≡_};
@@ -361,7 +361,7 @@ fn place_route(room: &mut [u8], values: &[u32], path: &[u16]) -> usize
     at + more
 }
 
-// The number of a refusal: its row in document 01's table.
+// The number of a refusal: its row in docs/RULES.md, "Refusal numbers".
 fn cause_number(cause: Cause) -> u32
     ensures { λ r. ⌜ r ≡ numberOf cause ⌝ }
 {

@@ -4,7 +4,7 @@ pub mod State
 pub mod Search
 pub mod Result
 pub mod Demands
--- The cases of document 01 marked P, and readings that go wrong, computed by these definitions.
+-- The cases marked P (docs/RULES.md, "Cases"), and readings that go wrong, computed by these definitions.
 pub mod Cases
 -- Why the demands are met. Nothing below has to be believed: the checker reads it.
 pub mod Why

@@ -1,4 +1,4 @@
-// Program `routeline`: a district file on standard input, its answer lines on standard output (document 01, "District frames").
+// Program `routeline`: a district file on standard input, its answer lines on standard output (docs/RULES.md, "The program").
 // All that matters is done by `district`, byte by byte; what is here reads the bytes as they come and writes the answers
 // before it reads again, so a person who types a query sees its answer at once. The memory is fixed: the lists of `main`.
 // No contract can say what is read and written, so the work is in functions over lists, `answer_part` above all: what it

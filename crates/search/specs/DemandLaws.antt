@@ -1,5 +1,5 @@
 -- The demands follow from what a query leaves, by the theorems of `nba` and the laws of the refusal table; what a query leaves
--- is one thing only; and its answer is the one of which the cases of document 01 are proved. Assumes nothing.
+-- is one thing only; and its answer is the one of which the cases (docs/RULES.md, "Cases") are proved. Assumes nothing.
 use mathlib.Core.Path.{_≡_, refl, sym, ap, _∙_}
 use mathlib.Core.Bool.{Bool, true, false, cond}
 use mathlib.Core.List.{List, []}
@@ -54,7 +54,7 @@ pub accepted-left : (q : Query) (l : LentLists) → queryVerdict q (lengths l) �
 unfolding queried
 accepted-left q l e = rw e
 
--- the answer that a query leaves is `answerTo`, of which the cases of document 01 are proved
+-- the answer that a query leaves is `answerTo`, of which the cases are proved
 pub query-answers : (q : Query) (l : LentLists) → queried q l .answer ≡ answerTo q (lengths l)
 unfolding queried answerTo
 query-answers q l = by (queryVerdict q (lengths l))

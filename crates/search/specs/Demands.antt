@@ -1,5 +1,5 @@
--- The buyer's three demands, of a query's answer and of the lent lists before and after it: what stands in the query's own
--- contract. Assumes nothing.
+-- The buyer's three demands (docs/RULES.md, "The three demands"), of a query's answer and of the lent lists before and after it:
+-- what stands in the query's own contract. Assumes nothing.
 use mathlib.Core.Path.{_≡_}
 use mathlib.Core.Logic.{_≢_}
 use mathlib.Core.Bool.{true, false}
@@ -76,7 +76,7 @@ pub record Demand3 (q : Query) (before after : LentLists) (r : Answer) : Type 0 
   pub every-pattern : {f : Figures} → HasFigures r f → (p : List ℕ) → badPattern p ≡ false
       → SameLengthAndVerdict r (queried (withPattern p q) before .answer)
 
--- What a query keeps to: it leaves what document 01 fixes, entry for entry, and so the three demands are met.
+-- What a query keeps to: it leaves what the rules fix, entry for entry, and so the three demands are met.
 pub record QueryKept (q : Query) (before after : LentLists) (r : Answer) : Type 0 where
   pub leaves : left r after ≡ queried q before
   pub demand1 : Demand1 q before after r

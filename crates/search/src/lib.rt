@@ -1,5 +1,6 @@
-// The route query over lists that the caller lends. It tests the query by document 01's table; a refusal comes before
-// anything is written. An accepted query is searched as `nba` defines it, turn for turn, on the first entries of the lists.
+// The route query over lists that the caller lends. It tests the query by the table of docs/RULES.md, "Refusal numbers";
+// a refusal comes before anything is written. An accepted query is searched as `nba` defines it, turn for turn, on the first
+// entries of the lists.
 mod run;
 mod tables;
 

@@ -1,11 +1,11 @@
-//! Document 01's cases P1 to P12 as files, and what the program `cases` should print of
-//! them: the answer in words, the path, the five work lists, and the answer lines.
+//! The cases P1 to P12 (docs/RULES.md, "Cases") as files, and what the program `cases`
+//! should print of them: the answer in words, the path, the five work lists, and the answer lines.
 
 use crate::check;
 use crate::frames::{self, Reader};
 use crate::model::{self, Answer, Fault, Figures};
 
-/// District D5 without a query, as document 01 prints it.
+/// District D5 without a query, as docs/RULES.md, "District D5", prints it.
 pub const D5: &str = "0100050005
 020000000100000001
 020001000200000001

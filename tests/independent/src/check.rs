@@ -295,8 +295,8 @@ pub fn describe(network: &Network) -> String {
     text
 }
 
-/// The work lists at the end of a query as document 01 has them, a line a node: the
-/// node and its row.
+/// The work lists at the end of a query (docs/RULES.md, "The end of a search"), a line a
+/// node: the node and its row.
 pub fn tables(network: &Network, query: &Query) -> String {
     let mut text = format!("query from {} to {}\n", query.start, query.end);
     let outcome = model::answer(network, query, None);
@@ -309,7 +309,7 @@ pub fn tables(network: &Network, query: &Query) -> String {
     text
 }
 
-/// A row a node, with document 01's numbers for what is missing and for the states:
+/// A row a node, with the rules' numbers for what is missing and for the states:
 /// start side's label and neighbour, end side's label and neighbour, state.
 pub fn rows(search: &Search) -> Vec<[i64; 5]> {
     let label = |half: &Half, node: usize| half.labels[node].unwrap_or(4_294_967_295);

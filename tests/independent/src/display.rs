@@ -95,7 +95,7 @@ pub fn rooms(lines: &[u8]) -> [usize; 7] {
     [length + 1_000, length + 1, length, length.saturating_sub(1), first, 1, 0]
 }
 
-/// Compares one room with what document 01 says of it.
+/// Compares one room with what docs/RULES.md, "The display", says of it.
 pub fn compare(entry: &mut Entry, file: &[u8], expected: &[u8], size: usize) -> Result<(), (String, Vec<u8>)> {
     let shown = show(entry, file, size).map_err(|what| (what, Vec::new()))?;
     judge(&shown, expected, size).map_err(|what| (what, shown.room))

@@ -1,5 +1,5 @@
-//! Document 01, "District frames": one line's frame, the answer lines, and a
-//! whole file from its bytes to the bytes of its answers.
+//! One line's frame and the answer lines (docs/RULES.md, "District frames"), and a whole
+//! file from its bytes to the bytes of its answers (docs/RULES.md, "Input order").
 
 use crate::model::{self, Answer, Arc, Fault, Figures, Network, Node, Query, Refusal};
 

@@ -1,6 +1,6 @@
-//! An independent program for document 01: the network, the search and the
-//! frames once more, written from the document alone and on purpose in another
-//! shape than the delivered code. Nothing here is fast; it is meant to be read.
+//! An independent program: the network, the search and the frames once more, written
+//! from the buyer's rules alone, which docs/RULES.md restates, and on purpose in another
+//! shape than the proved code. Nothing here is fast; it is meant to be read.
 
 #![forbid(unsafe_code)]
 

@@ -1,5 +1,6 @@
-//! Document 01, "The network and a query", the refusal table and "The search,
-//! turn by turn". A missing label is `None`, never a number.
+//! Networks and queries (docs/RULES.md, "The network and a query"), the refusal table
+//! (docs/RULES.md, "Refusal numbers") and the search
+//! (docs/RULES.md, "The search, turn by turn"). A missing label is `None`, never a number.
 
 pub const MOST_NODES: usize = 2_048;
 pub const MOST_ARCS: usize = 8_192;

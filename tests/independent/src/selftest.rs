@@ -1,4 +1,4 @@
-//! Tests of the independent program itself: document 01's cases, the order of
+//! Tests of the independent program itself: the cases (docs/RULES.md, "Cases"), the order of
 //! lines, the demands over made files, and that the tests notice faults.
 
 use crate::cases::{self, D5, ZERO};
@@ -13,8 +13,8 @@ type Passed = Result<(), String>;
 type Test = (&'static str, fn() -> Passed);
 
 const TESTS: [Test; 11] = [
-    ("document 01's cases P1 to P12", p_cases),
-    ("document 01's run-only cases", run_only_cases),
+    ("the cases P1 to P12", p_cases),
+    ("the cases that are run only", run_only_cases),
     ("sound frames and others", sound_frames),
     ("the order of lines", order_of_lines),
     ("line 4,294,967,295", last_line),
@@ -56,7 +56,7 @@ fn shown(file: &str) -> String {
     String::from_utf8_lossy(&answer_file(file.as_bytes(), Reader::Display, None).output).into_owned()
 }
 
-// ---------------------------------------------------------------- cases of document 01
+// ---------------------------------------------------------------- the cases of the rules
 
 /// What a pair answers where it passes, with the length's digits.
 fn pair_route(length: &str) -> String {

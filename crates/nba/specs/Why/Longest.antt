@@ -1,7 +1,7 @@
--- The largest shortest length of document 01, 2,047,000,000, is reached: by a chain of 2,048 nodes, from the first to the last,
--- each arc of the top weight. The walk along the chain is that long, and none is shorter: the potential of a node is how far it
--- is from the last, and along a walk a consistent potential falls by no more than the walk's length. No turn is computed.
--- Assumes nothing.
+-- The largest shortest length, 2,047,000,000 (docs/RULES.md, "The network and a query"), is reached: by a chain of 2,048 nodes,
+-- from the first to the last, each arc of the top weight. The walk along the chain is that long, and none is shorter: the
+-- potential of a node is how far it is from the last, and along a walk a consistent potential falls by no more than the walk's
+-- length. No turn is computed. Assumes nothing.
 use mathlib.Core.Path.{_≡_, refl, ap, _∙_}
 use mathlib.Core.Bool.{true, false}
 use mathlib.Core.List.{List, [], _∷_}
