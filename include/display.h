@@ -24,9 +24,15 @@ extern "C" {
 #define DISPLAY_ROOM (31 + 8195 + 13)
 
 /*
- * The stack that the calling thread should have left for a call. A call took 125,112 bytes on x86-64, the same for every
- * file that was tried, the largest districts among them: there is no recursion. This is about twice that, so that it stays
- * true where a compiler lays things out otherwise; .ci/checks/display measures it anew.
+ * The most stack that a call took, in bytes, from its return address on. It is the archive's own, on x86-64; the C library's
+ * memcpy and memset come on top. There is no recursion, and the files that were tried, the largest districts among them, hardly
+ * differ. tests/display/stack.c measures it, and .ci/checks/display fails where the figure is another.
+ */
+#define DISPLAY_STACK_TAKEN 122408
+
+/*
+ * The stack that the calling thread should have left for a call: more than twice that, so that it stays true whatever the C
+ * library takes and where a compiler lays things out otherwise.
  */
 #define DISPLAY_STACK (256 * 1024)
 
