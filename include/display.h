@@ -3,9 +3,11 @@
  *
  * One function. It reads the bytes of a district file with exactly one query and writes the answer lines into a room that
  * the caller lends. What it does is proved for every file and every room; how much stack it takes is measured. The archive
- * libdisplay.a asks for memcpy and memset of the C library and for nothing else.
+ * libdisplay.a is for x86-64 programs; it asks for memcpy and memset of the C library and for nothing else.
  *
- * Compile and link:  cc -std=c99 -Iinclude display.c target/staticlib/libdisplay.a -o display
+ * Compile and link a program, or make a shared object, which then exports the function:
+ *   cc -std=c99 -Iinclude examples/display.c target/staticlib/libdisplay.a -o display
+ *   cc -shared -Wl,-u,display_answer target/staticlib/libdisplay.a -o libdisplay.so
  */
 #ifndef DISPLAY_H
 #define DISPLAY_H
