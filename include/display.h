@@ -33,8 +33,8 @@ extern "C" {
 #define DISPLAY_STACK_TAKEN 122408
 
 /*
- * The stack that the calling thread should have left for a call: more than twice that, so that it stays true whatever the C
- * library takes and where a compiler lays things out otherwise.
+ * The stack that the calling thread should have left for a call: more than twice that, which leaves enough for the C library
+ * and for a compiler that lays things out otherwise.
  */
 #define DISPLAY_STACK (256 * 1024)
 
