@@ -25,6 +25,10 @@ size_t call_on(void *top, const uint8_t *from, size_t from_len, uint8_t *to, siz
 
 __asm__(".pushsection .text\n"
         ".globl call_on, memcpy, memset\n"
+        ".hidden call_on, memcpy, memset\n"
+        ".type call_on, @function\n"
+        ".type memcpy, @function\n"
+        ".type memset, @function\n"
         "call_on:\n"
         "    push %rbp\n"
         "    mov %rsp, %rbp\n"
