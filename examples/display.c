@@ -3,7 +3,8 @@
  *
  *   display FILE        or, with no FILE, from standard input
  *
- * Exit status: 0 a route or no route, 1 the query or the file is refused, 2 there is no answer to say.
+ * Exit status: 0 a route or no route, 1 the query or the file is refused, 2 there is no answer to say, or not all of it could
+ * be written (the reason stands on standard error, and what was written is not to be used).
  */
 #include <errno.h>
 #include <inttypes.h>
@@ -32,9 +33,14 @@ static const struct refusal refusals[] = {
     {"node", "a potential of the node is out of range", "do not use this district; ask for a corrected file."},
     {"arc", "the potentials break the consistency rule at this arc",
      "do not use this district; ask for a file whose potentials were computed for its present weights."},
-    {"line", "the line is no sound frame", "the file is damaged or cut short; load it again."},
-    {"line", "the line may not stand there, or a line is missing", "the file is not complete or has one query too many; load it again."},
+    {"line", "the line is no sound frame", "the file is damaged or cut short; load it again, and if that does not help ask for a corrected file."},
+    {"line", "the line may not stand there, or a line is missing", "ask for a file with its lines in order and one query."},
 };
+
+/* Loading a file again cannot mend what was written so; and it may help where the end is missing. */
+static const char *const carriage_returns = "the file has carriage returns; have its line ends converted to line feeds alone.";
+static const char *const lower_case = "the file has lower-case digits; have it written with upper-case ones.";
+static const char *const ends_early = "the file ends too early; load it again, and if that does not help ask for a whole one.";
 
 /* Reads all of a stream into memory that the caller frees. Returns NULL where that fails, with errno set. */
 static uint8_t *read_all(FILE *in, size_t *length)
@@ -112,22 +118,53 @@ static void say_route(const uint8_t *line, const uint8_t *path)
     say_figures(line + 14);
 }
 
-static void say_refusal(const uint8_t *line)
+/* How many bytes from `at` on, before `end`, are among `digits`. */
+static size_t count_digits(const uint8_t *at, const uint8_t *end, const char *digits)
 {
-    uint32_t number = field(line + 2, 2);
+    const uint8_t *from = at;
+
+    while (at < end && *at != 0 && strchr(digits, *at) != NULL) {
+        at++;
+    }
+    return (size_t)(at - from);
+}
+
+/* What to do about a file refusal of a line, by what stands there in the file: lines are counted from 1. */
+static const char *todo_of_line(const struct refusal *is, uint32_t line, const uint8_t *file, size_t length)
+{
+    const uint8_t *end = file + length, *at = file, *feed;
+
+    while (--line > 0 && (feed = memchr(at, '\n', (size_t)(end - at))) != NULL) {
+        at = feed + 1;
+    }
+    if (at == end) {
+        return ends_early;
+    }
+    feed = memchr(at, '\n', (size_t)(end - at));
+    const uint8_t *line_end = feed == NULL ? end : feed;
+    size_t upper = count_digits(at, line_end, "0123456789ABCDEF"), digits = count_digits(at, line_end, "0123456789ABCDEFabcdef");
+    if (at + digits < line_end && at[digits] == '\r') {
+        return carriage_returns;
+    }
+    return at + digits == line_end && upper < digits ? lower_case : is->todo;
+}
+
+static void say_refusal(const uint8_t *answer, const uint8_t *file, size_t length)
+{
+    uint32_t number = field(answer + 2, 2), place = field(answer + 4, 8);
     const struct refusal *is = &refusals[number < sizeof refusals / sizeof refusals[0] ? number : 0];
 
     printf("Refused, number %" PRIu32, number);
     if (is->place != NULL) {
-        printf(" at %s %" PRIu32, is->place, field(line + 4, 8));
+        printf(" at %s %" PRIu32, is->place, place);
     }
-    printf(": %s.\nWhat to do: %s\n", is->means, is->todo);
+    printf(": %s.\nWhat to do: %s\n", is->means, number == 10 || number == 11 ? todo_of_line(is, place, file, length) : is->todo);
 }
 
-/* Says every line of the answer; returns whether one of them was a refusal. */
-static int say_answer(const uint8_t *answer, size_t length)
+/* Says every line of the answer to a file; returns whether one of them was a refusal. */
+static int say_answer(const uint8_t *answer, size_t written, const uint8_t *file, size_t length)
 {
-    const uint8_t *at = answer, *end = answer + length;
+    const uint8_t *at = answer, *end = answer + written;
     int refused = 0;
 
     while (at < end) {
@@ -142,7 +179,7 @@ static int say_answer(const uint8_t *answer, size_t length)
             say_figures(at + 2);
             break;
         default:
-            say_refusal(at);
+            say_refusal(at, file, length);
             refused = 1;
         }
         at = next;
@@ -167,10 +204,17 @@ int main(int argc, char **argv)
         return 2;
     }
     size_t written = display_answer(file, length, room, sizeof room);
-    free(file);
     if (written == 0) {
         fprintf(stderr, "display: the answer does not fit in a room of %d bytes\n", DISPLAY_ROOM);
         return 2;
     }
-    return say_answer(room, written);
+    int refused = say_answer(room, written, file, length);
+    free(file);
+    int lost = ferror(stdout);
+    errno = 0;
+    if (fclose(stdout) != 0 || lost) {
+        fprintf(stderr, "display: standard output: %s\n", errno != 0 ? strerror(errno) : "a write failed");
+        return 2;
+    }
+    return refused;
 }

@@ -3,9 +3,11 @@
  *
  * One function. It reads the bytes of a district file with exactly one query and writes the answer lines into a room that
  * the caller lends. What it does is proved for every file and every room; how much stack it takes is measured. The archive
- * libdisplay.a asks for memcpy and memset of the C library and for nothing else.
+ * libdisplay.a is for x86-64 programs; it asks for memcpy and memset of the C library and for nothing else.
  *
- * Compile and link:  cc -std=c99 -Iinclude display.c target/staticlib/libdisplay.a -o display
+ * Compile and link a program, or make a shared object, which then exports the function:
+ *   cc -std=c99 -Iinclude examples/display.c target/staticlib/libdisplay.a -o display
+ *   cc -shared -Wl,-u,display_answer target/staticlib/libdisplay.a -o libdisplay.so
  */
 #ifndef DISPLAY_H
 #define DISPLAY_H
@@ -24,9 +26,15 @@ extern "C" {
 #define DISPLAY_ROOM (31 + 8195 + 13)
 
 /*
- * The stack that the calling thread should have left for a call. A call took 125,112 bytes on x86-64, the same for every
- * file that was tried, the largest districts among them: there is no recursion. This is about twice that, so that it stays
- * true where a compiler lays things out otherwise; .ci/checks/display measures it anew.
+ * The most stack that a call took, in bytes, from its return address on. It is the archive's own, on x86-64; the C library's
+ * memcpy and memset come on top. There is no recursion, and the files that were tried, the largest districts among them, hardly
+ * differ. tests/display/stack.c measures it, and .ci/checks/display fails where the figure is another.
+ */
+#define DISPLAY_STACK_TAKEN 122408
+
+/*
+ * The stack that the calling thread should have left for a call: more than twice that, which leaves enough for the C library
+ * and for a compiler that lays things out otherwise.
  */
 #define DISPLAY_STACK (256 * 1024)
 

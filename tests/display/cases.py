@@ -91,6 +91,7 @@ CASES = [
     ("one byte", "0", "FF0A00000001\n", None),
     ("one line feed", "\n", "FF0A00000001\n", None),
     ("no last line feed", D5[:-1], "FF0A0000000C\n", None),
+    ("268 digits, no line feed", "0" * 268, "FF0A00000001\n", None),
     ("70,000 digits, no line feed", "0" * 70000, "FF0A00000001\n", None),
     ("70,000 digits in a line after an answer", D5 + "0" * 70000 + "\n" + query(0, 3, "01"), P1 + "FF0A0000000D\n", None),
     ("a NUL", D5[:-2] + "\0\n", "FF0A0000000C\n", None),

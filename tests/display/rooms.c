@@ -6,30 +6,14 @@
  *
  * Around each room lie guard bytes, and in it old bytes; what may not change is looked at after each call.
  */
-#include <stdio.h>
-#include <stdlib.h>
 #include <string.h>
 
 #include "display.h"
+#include "files.h"
 
 #define GUARD 64
-#define MOST (1024 * 1024)
 
 static uint8_t file[MOST], kept[MOST], expected[MOST], memory[MOST];
-
-static size_t read_file(const char *name, uint8_t *to)
-{
-    FILE *in = fopen(name, "rb");
-    size_t length;
-
-    if (in == NULL) {
-        fprintf(stderr, "rooms: cannot open %s\n", name);
-        exit(2);
-    }
-    length = fread(to, 1, MOST, in);
-    fclose(in);
-    return length;
-}
 
 /* The byte that stands at a place before the call: no digit and no line feed, so that a written byte is a seen one. */
 static uint8_t old_byte(size_t at)

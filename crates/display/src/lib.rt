@@ -30,7 +30,7 @@ fn place(text: &[u8], room: &mut [u8]) -> usize
 }
 
 // The answer of a file with one query, gathered in a text that always suffices: each answer line starts where the line before
-// it ended.
+// it ended. Bytes after a file refusal are not looked at.
 fn gather(
     file: &[u8],
     line: &mut [u8],
@@ -47,7 +47,7 @@ fn gather(
     let mut reader = district::start(true, 1);
     let mut at: usize = 0;
     let mut i: usize = 0;
-    while i < file.len() {
+    while i < file.len() && reader.going {
         let taken = district::take_byte(
             reader,
             file[i],

@@ -51,6 +51,14 @@ pub rest-byte : (f : File) (b : ℕ) (bytes : List ℕ) → restOf f (b ∷ byte
 unfolding restOf feed
 rest-byte f b bytes = append-assoc (takeByte f b .printed) _ _
 
+-- a file that a refusal has ended prints nothing more, whatever its bytes: they need not be looked at
+pub rest-ended : (f : File) (bytes : List ℕ) → f .going ≡ false → restOf f bytes ≡ []
+unfolding takeByte endOfInput
+rest-ended f [] ended = rest-none f ∙ rw ended
+rest-ended f (b ∷ bytes) ended =
+    let same : takeByte f b ≡ step f [] = rw ended in
+    rest-byte f b bytes ∙ rw same (rest-ended f bytes ended)
+
 -- ---- how much is printed
 found-short : (q : Query) → Sound q → (a : Answer) → found q ≡ a → (p : List ℕ) → length (answerLines a p) ≤ mostBytes
 found-short q sound (Route l n f) e p =

@@ -23,7 +23,7 @@ use Rattle.frames.specs.Frame.{mostDigits, frameOf}
 use Rattle.frames.specs.FrameCases.{too-long}
 use Rattle.frames.specs.AnswerLines.{lineFeed, answerLines}
 use Rattle.district.specs.File.{Told, File, FileStep, nothingTold, lastLine, refused, taken, wrongCause, sizeOwed, arcsOwed, potentialsOwed, takeSize, takeArcs, takePotentials, takeQuery, takeFrame, takeLine, brokenLine, takeByte, owing, endOfInput, answerFrom}
-use Rattle.district.specs.FileLaws.{restOf, rest-whole, rest-none, rest-byte}
+use Rattle.district.specs.FileLaws.{restOf, rest-whole, rest-none, rest-byte, rest-ended}
 use Rattle.district.specs.Lines.{Lines, beganWith, linesOf, joined, withoutFeed, owedArcs, mayStand, badNodes, badArcs, sizeVerdict, frameVerdict, endVerdict, toldWith, printedFor, Outcome, thenOn, readLines, outcomeOf, refusalLine, printedOf}
 
 -- ---- the lines of a file
@@ -69,19 +69,10 @@ pub rest-without-feed : (bytes : List ℕ) → withoutFeed (linesOf bytes .rest)
 rest-without-feed bytes = feeds-between bytes .in-rest
 
 -- ---- after a refusal
--- a file that a refusal has ended
-abbrev stopped : File → File
-stopped f = record { told = f .told; line = f .line; held = f .held; single = f .single; going = false }
-
--- nothing more is printed for it
-stopped-rest : (f : File) (bytes : List ℕ) → restOf (stopped f) bytes ≡ []
-unfolding takeByte endOfInput
-stopped-rest f [] = rest-none (stopped f)
-stopped-rest f (b ∷ bytes) = rest-byte (stopped f) b bytes ∙ stopped-rest f bytes
-
+-- a refusal is the last that a file prints
 refused-rest : (f : File) (c : Cause) (bytes : List ℕ) → refused f c .printed ++ restOf (refused f c .file) bytes ≡ answerLines (Refusal c) []
 unfolding refused
-refused-rest f c bytes = rw (stopped-rest f bytes, append-nil)
+refused-rest f c bytes = rw (rest-ended (refused f c .file) bytes refl, append-nil)
 
 -- ---- one line
 -- a file in the midst of line n

@@ -31,11 +31,18 @@ slice-aggregate-gather-7 c = search needs
 gather-requires : tie.Need-gather-requires
 gather-requires c κs = search needs
 
+-- the count of the gathered text lies within it
 array-share-prefix-text : tie.Need-array-share-prefix-text
-array-share-prefix-text c = omega (arith, c .before .before .before .before .before .before .before .gather .ensures .count-is, display-bytes (c .before .before .before .before .before .before .before .before .before .before .before .before .before .before .before .before .before .args .file .now), c .before .before .before .before .before .before .before .gather .kept .1 .1 .1 .1 .1 .1 .1 .0)
+array-share-prefix-text c =
+    let gathered = c .before .before .before .before .before .before .before .gather in
+    let file = c .before .before .before .before .before .before .before .before .before .before .before .before .before .before .before .before .before .args .file .now in
+    omega (arith, gathered .ensures .count-is, display-bytes file, gathered .kept .1 .1 .1 .1 .1 .1 .1 .0)
 
 slice-aggregate-place : tie.Need-slice-aggregate-place
-slice-aggregate-place c = simp length-take (omega (arith, c .before .before .before .before .before .before .before .before .gather .ensures .count-is, display-bytes (c .before .before .before .before .before .before .before .before .before .before .before .before .before .before .before .before .before .before .args .file .now), c .before .before .before .before .before .before .before .before .gather .kept .1 .1 .1 .1 .1 .1 .1 .0))
+slice-aggregate-place c =
+    let gathered = c .before .before .before .before .before .before .before .before .gather in
+    let file = c .before .before .before .before .before .before .before .before .before .before .before .before .before .before .before .before .before .before .args .file .now in
+    simp length-take (omega (arith, gathered .ensures .count-is, display-bytes file, gathered .kept .1 .1 .1 .1 .1 .1 .1 .0))
 
 place-requires : tie.Need-place-requires
 place-requires c κs = search needs
@@ -44,7 +51,10 @@ same-length : tie.Need-same-length
 same-length c = search needs
 
 returns : tie.Need-returns
-returns c = placed-as (laid-front _ _ _ _ (c .before .before .before .before .before .before .before .before .before .before .before .before .gather .ensures)) (c .before .before .place .ensures)
+returns c =
+    let gathered = c .before .before .before .before .before .before .before .before .before .before .before .before .gather in
+    let placed = c .before .before .place in
+    placed-as (laid-front _ _ _ _ (gathered .ensures)) (placed .ensures)
 
 pub display-answer-spec : {M : Type 1} → statement M
 display-answer-spec =

@@ -1,17 +1,18 @@
--- `gather` meets its contract: what is written and what is still to come make up the answer, byte for byte. Assumes nothing.
-use mathlib.Core.Path.{_≡_, refl, _∙_}
+-- `gather` meets its contract: what is written and what is still to come make up the answer, byte for byte. The loop is left
+-- where the file is read whole, or where a refusal has ended it and nothing is still to come. Assumes nothing.
+use mathlib.Core.Logic.{⊎-elim}
 use Prim.Native.Nat.{_-_}
 use native.Mathlib.Omega.{arith}
 use borrow.Author.Needs.{needs}
 use lib.ListN.{length}
 use Rattle.district.specs.Reader.{lists}
-use Rattle.display.specs.GatherLaws.{Gathering, gather-start, byte-count, gather-byte, end-count, end-size, gather-end}
+use Rattle.display.specs.GatherLaws.{Gathering, gather-start, part-within, text-length, gather-byte, over-ended, over-read, gather-end}
 use Rattle.display.proofs.gather.Statement.{statement}
 use Rattle.display.proofs.gather.Tie as tie
 
 abbrev Inv-loop : tie.InvT-loop
 Inv-loop file line₀ tails₀ heads₀ weights₀ forward₀ backward₀ text₀ reader₀ at₀ i₀ line tails heads weights forward backward text reader at i =
-    Gathering file text₀ reader (lists line tails heads weights forward backward) text at i × (length line ≡ length line₀) × (length tails ≡ length tails₀) × (length heads ≡ length heads₀) × (length weights ≡ length weights₀) × (length forward ≡ length forward₀) × (length backward ≡ length backward₀)
+    Gathering file text₀ (lists line₀ tails₀ heads₀ weights₀ forward₀ backward₀) reader (lists line tails heads weights forward backward) text at i
 
 abbrev μ-loop : tie.MeasureT-loop
 μ-loop file line₀ tails₀ heads₀ weights₀ forward₀ backward₀ text₀ reader₀ at₀ i₀ line tails heads weights forward backward text reader at i =
@@ -21,81 +22,109 @@ start-requires : tie.Need-start-requires Inv-loop μ-loop
 start-requires c κs = search needs
 
 loop-holds : tie.Need-loop-holds Inv-loop μ-loop
-loop-holds c = (gather-start _ _ _ _ (c .start .ensures) (c .before .before .before .before .before .before .before .pre .0) (c .before .before .before .before .before .before .before .pre .1), refl, refl, refl, refl, refl, refl)
+loop-holds c =
+    let entry = c .before .before .before .before .before .before .before in
+    gather-start _ _ _ _ (c .start .ensures) (entry .pre .0) (entry .pre .1)
 
+-- ---- a byte
 shared-slice-read-take-byte : tie.Need-shared-slice-read-take-byte Inv-loop μ-loop
-shared-slice-read-take-byte c = c .before .loop-test .taken
+shared-slice-read-take-byte c = c .before .before .loop-test .taken
 
 sub-take-byte : tie.Need-sub-take-byte Inv-loop μ-loop
-sub-take-byte c = omega (arith, c .before .before .before .before .before .before .before .before .loop .inv .0 .underway .fits)
+sub-take-byte c = let gathering = c .before .before .before .before .before .before .before .before .before .loop .inv in omega (arith, gathering .underway .fits)
 
 part-take-byte-start : tie.Need-part-take-byte-start Inv-loop μ-loop
-part-take-byte-start c = omega (arith, c .before .before .before .before .before .before .before .before .loop .inv .0 .underway .fits)
+part-take-byte-start c = let gathering = c .before .before .before .before .before .before .before .before .before .loop .inv in omega (arith, gathering .underway .fits)
 
 part-take-byte-end : tie.Need-part-take-byte-end Inv-loop μ-loop
 part-take-byte-end c = omega arith
 
 take-byte-requires : tie.Need-take-byte-requires Inv-loop μ-loop
-take-byte-requires c κs = c .before .before .before .before .before .before .before .before .before .loop .inv .0 .kept
+take-byte-requires c κs = let gathering = c .before .before .before .before .before .before .before .before .before .before .loop .inv in gathering .kept
 
 add-at : tie.Need-add-at Inv-loop μ-loop
-add-at c = omega (arith, byte-count _ _ _ _ _ _ _ (c .before .before .before .before .before .before .before .before .before .before .before .before .before .before .before .before .before .before .before .before .before .before .before .before .loop .inv .0) (c .before .before .before .before .before .before .before .before .before .before .before .before .before .before .before .before .before .before .before .before .before .before .before .loop-test .taken) _ _ _ (c .before .before .before .before .before .before .before .before .before .before .before .before .before .before .take-byte .ensures), c .before .before .before .before .before .before .before .before .before .before .before .before .before .before .before .before .before .before .before .before .before .before .before .before .loop .inv .0 .underway .size, c .before .before .before .before .before .before .before .before .before .before .before .before .before .before .before .before .before .before .before .before .before .before .before .before .before .before .before .before .before .before .before .before .good)
+add-at c =
+    let gathering = c .before .before .before .before .before .before .before .before .before .before .before .before .before .before .before .before .before .before .before .before .before .before .before .before .before .loop .inv in
+    let taken = c .before .before .before .before .before .before .before .before .before .before .before .before .before .before .take-byte in
+    let entry = c .before .before .before .before .before .before .before .before .before .before .before .before .before .before .before .before .before .before .before .before .before .before .before .before .before .before .before .before .before .before .before .before .before in
+    omega (arith, part-within _ _ _ _ _ _ _ _ gathering (taken .ensures .room-is), gathering .underway .size, entry .good)
 
 add-i : tie.Need-add-i Inv-loop μ-loop
-add-i c = omega (arith, c .before .before .before .before .before .before .before .before .before .before .before .before .before .before .before .before .before .before .before .before .before .before .before .loop-test .taken, c .before .before .before .before .before .before .before .before .before .before .before .before .before .before .before .before .before .before .before .before .before .before .before .before .before .before .before .before .before .before .before .before .good)
+add-i c =
+    let more = c .before .before .before .before .before .before .before .before .before .before .before .before .before .before .before .before .before .before .before .before .before .before .before .before .loop-test .taken in
+    let entry = c .before .before .before .before .before .before .before .before .before .before .before .before .before .before .before .before .before .before .before .before .before .before .before .before .before .before .before .before .before .before .before .before .before in
+    omega (arith, more, entry .good)
 
 loop-less : tie.Need-loop-less Inv-loop μ-loop
-loop-less c = omega (arith, c .before .before .before .before .before .before .before .before .before .before .before .before .before .before .before .before .before .before .before .before .before .before .before .loop-test .taken)
+loop-less c = let more = c .before .before .before .before .before .before .before .before .before .before .before .before .before .before .before .before .before .before .before .before .before .before .before .before .loop-test .taken in omega (arith, more)
 
 loop-again : tie.Need-loop-again Inv-loop μ-loop
-loop-again c = (
-  gather-byte _ _ _ _ _ _ _ (c .before .before .before .before .before .before .before .before .before .before .before .before .before .before .before .before .before .before .before .before .before .before .before .before .loop .inv .0) (c .before .before .before .before .before .before .before .before .before .before .before .before .before .before .before .before .before .before .before .before .before .before .before .loop-test .taken) _ _ _ (c .before .before .before .before .before .before .before .before .before .before .before .before .before .before .take-byte .ensures),
-  c .before .before .before .before .before .before .before .before .before .before .before .before .before .before .take-byte .kept .1 .1 .0 ∙ c .before .before .before .before .before .before .before .before .before .before .before .before .before .before .before .before .before .before .before .before .before .before .before .before .loop .inv .1,
-  c .before .before .before .before .before .before .before .before .before .before .before .before .before .before .take-byte .kept .1 .1 .1 .0 ∙ c .before .before .before .before .before .before .before .before .before .before .before .before .before .before .before .before .before .before .before .before .before .before .before .before .loop .inv .2,
-  c .before .before .before .before .before .before .before .before .before .before .before .before .before .before .take-byte .kept .1 .1 .1 .1 .0 ∙ c .before .before .before .before .before .before .before .before .before .before .before .before .before .before .before .before .before .before .before .before .before .before .before .before .loop .inv .3,
-  c .before .before .before .before .before .before .before .before .before .before .before .before .before .before .take-byte .kept .1 .1 .1 .1 .1 .0 ∙ c .before .before .before .before .before .before .before .before .before .before .before .before .before .before .before .before .before .before .before .before .before .before .before .before .loop .inv .4,
-  c .before .before .before .before .before .before .before .before .before .before .before .before .before .before .take-byte .kept .1 .1 .1 .1 .1 .1 .0 ∙ c .before .before .before .before .before .before .before .before .before .before .before .before .before .before .before .before .before .before .before .before .before .before .before .before .loop .inv .5,
-  c .before .before .before .before .before .before .before .before .before .before .before .before .before .before .take-byte .kept .1 .1 .1 .1 .1 .1 .1 .0 ∙ c .before .before .before .before .before .before .before .before .before .before .before .before .before .before .before .before .before .before .before .before .before .before .before .before .loop .inv .6,
-)
+loop-again c =
+    let gathering = c .before .before .before .before .before .before .before .before .before .before .before .before .before .before .before .before .before .before .before .before .before .before .before .before .before .loop .inv in
+    let more = c .before .before .before .before .before .before .before .before .before .before .before .before .before .before .before .before .before .before .before .before .before .before .before .before .loop-test .taken in
+    let taken = c .before .before .before .before .before .before .before .before .before .before .before .before .before .before .take-byte in
+    let lengths = taken .kept .1 .1 in
+    gather-byte _ _ _ _ _ _ _ _ gathering more _ _ _ (taken .ensures)
+    (record {
+      line = lengths .0;
+      tails = lengths .1 .0;
+      heads = lengths .1 .1 .0;
+      weights = lengths .1 .1 .1 .0;
+      forward = lengths .1 .1 .1 .1 .0;
+      backward = lengths .1 .1 .1 .1 .1 .0;
+    })
 
+-- ---- the end of input
 sub-end-of-input : tie.Need-sub-end-of-input Inv-loop μ-loop
-sub-end-of-input c = omega (arith, c .before .loop .inv .0 .underway .fits)
+sub-end-of-input c = let gathering = c .before .loop .inv in omega (arith, gathering .underway .fits)
 
 part-end-of-input-start : tie.Need-part-end-of-input-start Inv-loop μ-loop
-part-end-of-input-start c = omega (arith, c .before .loop .inv .0 .underway .fits)
+part-end-of-input-start c = let gathering = c .before .loop .inv in omega (arith, gathering .underway .fits)
 
 part-end-of-input-end : tie.Need-part-end-of-input-end Inv-loop μ-loop
 part-end-of-input-end c = omega arith
 
 end-of-input-requires : tie.Need-end-of-input-requires Inv-loop μ-loop
-end-of-input-requires c κs = record { over = _; kept = c .before .before .loop .inv .0 .kept }
+end-of-input-requires c κs = let gathering = c .before .before .loop .inv in record { over = _; kept = gathering .kept }
 
 add-result : tie.Need-add-result Inv-loop μ-loop
-add-result c = omega (arith, end-count _ _ _ _ _ _ _ (c .before .before .before .before .before .loop .inv .0) (c .before .before .before .before .loop-test .left) _ _ (c .before .before .end-of-input .ensures .law _ (c .before .before .before .before .before .loop .inv .0 .kept)), c .before .before .before .before .before .loop .inv .0 .underway .size, c .before .before .before .before .before .before .before .before .before .before .before .before .before .good)
+add-result c =
+    let gathering = c .before .before .before .before .before .loop .inv in
+    let placed = c .before .before .end-of-input .ensures .law _ (gathering .kept) in
+    let entry = c .before .before .before .before .before .before .before .before .before .before .before .before .before in
+    omega (arith, part-within _ _ _ _ _ _ _ _ gathering placed, gathering .underway .size, entry .good)
 
 same-length : tie.Need-same-length Inv-loop μ-loop
-same-length c = c .before .before .before .before .before .loop .inv .1
+same-length c = let gathering = c .before .before .before .before .before .loop .inv in gathering .as-long .line
 
 same-length-2 : tie.Need-same-length-2 Inv-loop μ-loop
-same-length-2 c = c .before .before .before .before .before .loop .inv .2
+same-length-2 c = let gathering = c .before .before .before .before .before .loop .inv in gathering .as-long .tails
 
 same-length-3 : tie.Need-same-length-3 Inv-loop μ-loop
-same-length-3 c = c .before .before .before .before .before .loop .inv .3
+same-length-3 c = let gathering = c .before .before .before .before .before .loop .inv in gathering .as-long .heads
 
 same-length-4 : tie.Need-same-length-4 Inv-loop μ-loop
-same-length-4 c = c .before .before .before .before .before .loop .inv .4
+same-length-4 c = let gathering = c .before .before .before .before .before .loop .inv in gathering .as-long .weights
 
 same-length-5 : tie.Need-same-length-5 Inv-loop μ-loop
-same-length-5 c = c .before .before .before .before .before .loop .inv .5
+same-length-5 c = let gathering = c .before .before .before .before .before .loop .inv in gathering .as-long .forward
 
 same-length-6 : tie.Need-same-length-6 Inv-loop μ-loop
-same-length-6 c = c .before .before .before .before .before .loop .inv .6
+same-length-6 c = let gathering = c .before .before .before .before .before .loop .inv in gathering .as-long .backward
 
 same-length-7 : tie.Need-same-length-7 Inv-loop μ-loop
-same-length-7 c = end-size _ _ _ _ _ _ _ (c .before .before .before .before .before .loop .inv .0) (c .before .before .before .before .loop-test .left) _ _ (c .before .before .end-of-input .ensures .law _ (c .before .before .before .before .before .loop .inv .0 .kept))
+same-length-7 c =
+    let gathering = c .before .before .before .before .before .loop .inv in
+    let ended = c .before .before .end-of-input in
+    text-length _ _ _ _ _ _ _ _ gathering (ended .last .1 .0) (ended .kept .1 .0)
 
 returns : tie.Need-returns Inv-loop μ-loop
-returns c = gather-end _ _ _ _ _ _ _ (c .before .before .before .before .before .loop .inv .0) (c .before .before .before .before .loop-test .left) _ _ (c .before .before .end-of-input .ensures .law _ (c .before .before .before .before .before .loop .inv .0 .kept))
+returns c =
+    let gathering = c .before .before .before .before .before .loop .inv in
+    let left = c .before .before .before .before .loop-test .came in
+    let placed = c .before .before .end-of-input .ensures .law _ (gathering .kept) in
+    gather-end _ _ _ _ _ _ _ _ gathering _ _
+    (⊎-elim (λ ended. over-ended _ _ _ _ _ _ _ _ gathering (ended .1 .left)) (λ read. over-read _ _ _ _ _ _ _ _ gathering (read .left)) left) placed
 
 pub gather-spec : {M : Type 1} → statement M
 gather-spec =

@@ -12,13 +12,14 @@ use Rattle.display.proofs.place.Statement.{statement}
 use Rattle.display.proofs.place.Tie as tie
 
 -- the next entry is the first of those that are left
-ne : {text old room : List ℕ} {i : ℕ} → Underway text old room i (drop i text) → i < length text → Underway text old room i (getD text i 0 ∷ drop (i + 1) text)
-ne {text} {old} {room} {i} u h =
+next-entry : {text old room : List ℕ} {i : ℕ} → Underway text old room i (drop i text) → i < length text → Underway text old room i (getD text i 0 ∷ drop (i + 1) text)
+next-entry {text} {old} {room} {i} u h =
     let e : drop i text ≡ getD text i 0 ∷ drop (i + 1) text = rw (drop-cons text i 0 h, add-one) in
     subst (λ (l : List ℕ). Underway text old room i l) e u
 
-placed : (text old room : List ℕ) (i : ℕ) → Underway text old room i (drop i text) → length text ≤ i → length text ≤ length old → Placed text old room i
-placed text old room i u h fits =
+-- none is left
+all-entries : (text old room : List ℕ) (i : ℕ) → Underway text old room i (drop i text) → length text ≤ i → length text ≤ length old → Placed text old room i
+all-entries text old room i u h fits =
     let e : drop i text ≡ [] = drop-of-length-le text h in
     laid-placed text old room i fits (underway-end text old room i (subst (λ (l : List ℕ). Underway text old room i l) e u))
 
@@ -38,7 +39,10 @@ shared-slice-read-room : tie.Need-shared-slice-read-room Inv-loop μ-loop
 shared-slice-read-room c = omega arith
 
 slice-write-room : tie.Need-slice-write-room Inv-loop μ-loop
-slice-write-room c = omega (arith, ne (c .before .before .loop .inv .1) (c .before .loop-test .taken) .fits)
+slice-write-room c =
+    let underway = c .before .before .loop .inv .1 in
+    let more = c .before .loop-test .taken in
+    omega (arith, next-entry underway more .fits)
 
 add-i : tie.Need-add-i Inv-loop μ-loop
 add-i c = omega arith
@@ -47,13 +51,20 @@ loop-less : tie.Need-loop-less Inv-loop μ-loop
 loop-less c = omega arith
 
 loop-again : tie.Need-loop-again Inv-loop μ-loop
-loop-again c = (omega arith, underway-entry _ _ _ _ _ _ (ne (c .before .before .loop .inv .1) (c .before .loop-test .taken)))
+loop-again c =
+    let underway = c .before .before .loop .inv .1 in
+    let more = c .before .loop-test .taken in
+    (omega arith, underway-entry _ _ _ _ _ _ (next-entry underway more))
 
 same-length : tie.Need-same-length Inv-loop μ-loop
 same-length c = c .before .loop .inv .1 .size
 
 returns-2 : tie.Need-returns-2 Inv-loop μ-loop
-returns-2 c = placed _ _ _ _ (c .before .loop .inv .1) (c .loop-test .left) (c .before .before .if1 .left)
+returns-2 c =
+    let underway = c .before .loop .inv .1 in
+    let none-left = c .loop-test .left in
+    let fits = c .before .before .if1 .left in
+    all-entries _ _ _ _ underway none-left fits
 
 pub place-spec : {M : Type 1} → statement M
 place-spec =
