@@ -1,10 +1,11 @@
-"""What the proofs of a crate's functions know, read from the modules that the check generates; for `needs` and `facts`.
+"""What the proofs of a crate's functions know, read from the modules that the check generates; for `turn`, `needs`, `facts`.
 
 A place is a point of a function's code. Its record has two fields: `before`, the record of the place before it, and the
 thing that bound something last: a loop, a test, a call, a value read. The first place is the function's entry, `Start`. A need
 is asked at a place, and the record of that place is the `c` of its answer."""
 import hashlib
 import json
+import os
 import re
 import subprocess
 import sys
@@ -12,6 +13,7 @@ import tempfile
 from pathlib import Path
 
 ROOT = Path(__file__).resolve().parents[1]
+WHOLE = dict(os.environ, RT_CUT="0")  # `rt` cuts no line
 CALLED = ["result", "ensures", "last", "kept", "ok"]  # what a call gives, in the words of the kit's guide
 
 
@@ -82,3 +84,9 @@ def function(crate, folder):
 def path(steps, thing=None):
     """The path from `c` to a thing that lies so many steps back, or to the place itself."""
     return "c" + " .before" * steps + (f" .{thing}" if thing else "")
+
+
+def plain(text):
+    """A message in the source's terms: names without their modules, and paths into `c` by what they lead to."""
+    text = re.sub(r"(?<![^\s(){}`,])(?:[^\s.(){}`,/]+\.)+(?=[^\s.)])", "", text)
+    return re.sub(r"\bc(?: \.before)+ \.(?!before)(\S+?)(?=[\s)}`,;]|$)", r"c@\1", text)
