@@ -107,7 +107,8 @@ class Answer:
         uses = [self.fact(path)[0] for path in PATH.finditer(self.text) if is_path(path)]
         far = self.named or any(steps > NEAR for steps, _ in uses)
         for fact in dict.fromkeys(uses):
-            if fact not in self.named and fact[0] and (far or uses.count(fact) > 1):
+            place = not fact[1] and fact[0] < len(self.at) - 1  # a whole place: its steps can be counted anew only by its name
+            if fact not in self.named and fact[0] and (far or place or uses.count(fact) > 1):
                 self.name(fact)
         text = PATH.sub(self.used, self.text)
         for name in self.named.values():
