@@ -22,7 +22,9 @@ unfolding arcOf
 an-arc b s l t h w = rw (eq-eqb _ _ l, t, h, w)
 
 returns : tie.Need-returns
-returns c = no-arc (c .before .before .args .both) (c .before .before .args .line .now) (c .if1 .taken)
+returns c =
+    let entry = c .before .before in
+    no-arc (entry .args .both) (entry .args .line .now) (c .if1 .taken)
 
 number-requires : tie.Need-number-requires
 number-requires c κs = search needs
@@ -40,10 +42,22 @@ number-requires-3 : tie.Need-number-requires-3
 number-requires-3 c κs = search needs
 
 returns-2 : tie.Need-returns-2
-returns-2 c = rw (c .if2 .taken) (an-arc true (c .before .before .before .before .before .before .args .line .now) (c .before .before .before .before .if1 .left) (c .before .before .before .number .ensures .0) (c .before .before .number2 .ensures .0) (c .before .number3 .ensures .0))
+returns-2 c =
+    let entry = c .before .before .before .before .before .before in
+    let if1 = c .before .before .before .before .if1 in
+    let number = c .before .before .before .number in
+    let number2 = c .before .before .number2 in
+    let number3 = c .before .number3 in
+    rw (c .if2 .taken) (an-arc true (entry .args .line .now) (if1 .left) (number .ensures .0) (number2 .ensures .0) (number3 .ensures .0))
 
 returns-3 : tie.Need-returns-3
-returns-3 c = rw (c .if2 .left) (an-arc false (c .before .before .before .before .before .before .args .line .now) (c .before .before .before .before .if1 .left) (c .before .before .before .number .ensures .0) (c .before .before .number2 .ensures .0) (c .before .number3 .ensures .0))
+returns-3 c =
+    let entry = c .before .before .before .before .before .before in
+    let if1 = c .before .before .before .before .if1 in
+    let number = c .before .before .before .number in
+    let number2 = c .before .before .number2 in
+    let number3 = c .before .number3 in
+    rw (c .if2 .left) (an-arc false (entry .args .line .now) (if1 .left) (number .ensures .0) (number2 .ensures .0) (number3 .ensures .0))
 
 pub arc-frame-spec : {M : Type 1} → statement M
 arc-frame-spec =

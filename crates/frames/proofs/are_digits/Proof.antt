@@ -22,14 +22,18 @@ shared-slice-read-value : tie.Need-shared-slice-read-value Inv-loop μ-loop
 shared-slice-read-value c = omega arith
 
 value-requires : tie.Need-value-requires Inv-loop μ-loop
-value-requires c κs = c .before .before .before .before .pre
+value-requires c κs =
+    let entry = c .before .before .before .before in
+    entry .pre
 
 returns : tie.Need-returns Inv-loop μ-loop
 returns c =
-    let s = c .before .before .before .before .before .before .args .line .now in
-    let l = c .before .before .before .before .loop in
-    let bad : 16 ≤ c .before .value .result = omega arith in
-    digits-end s (l .i) (omega arith) (rw (c .before .value .ensures) at bad) ∙ l .inv .1
+    let entry = c .before .before .before .before .before .before in
+    let loop = c .before .before .before .before .loop in
+    let value = c .before .value in
+    let s = entry .args .line .now in
+    let bad : 16 ≤ value .result = omega arith in
+    digits-end s (loop .i) (omega arith) (rw (value .ensures) at bad) ∙ loop .inv .1
 
 add-i : tie.Need-add-i Inv-loop μ-loop
 add-i c = omega arith
@@ -39,15 +43,18 @@ loop-less c = omega arith
 
 loop-again : tie.Need-loop-again Inv-loop μ-loop
 loop-again c =
-    let s = c .before .before .before .before .before .before .args .line .now in
-    let l = c .before .before .before .before .loop in
-    let good : c .before .value .result < 16 = omega arith in
-    (omega arith, digits-more s (l .i) (omega arith) (rw (c .before .value .ensures) at good) ∙ l .inv .1)
+    let entry = c .before .before .before .before .before .before in
+    let loop = c .before .before .before .before .loop in
+    let value = c .before .value in
+    let s = entry .args .line .now in
+    let good : value .result < 16 = omega arith in
+    (omega arith, digits-more s (loop .i) (omega arith) (rw (value .ensures) at good) ∙ loop .inv .1)
 
 returns-2 : tie.Need-returns-2 Inv-loop μ-loop
 returns-2 c =
-    let l = c .before .loop in
-    digits-none (c .before .before .before .args .line .now) (l .i) (omega arith) ∙ l .inv .1
+    let entry = c .before .before .before in
+    let loop = c .before .loop in
+    digits-none (entry .args .line .now) (loop .i) (omega arith) ∙ loop .inv .1
 
 pub are-digits-spec : {M : Type 1} → statement M
 are-digits-spec =

@@ -12,7 +12,9 @@ returns : tie.Need-returns
 returns c = too-short (c .before .before .args .line .now) (c .if1 .taken)
 
 returns-2 : tie.Need-returns-2
-returns-2 c = too-long (c .before .before .before .args .line .now) (c .if2 .taken)
+returns-2 c =
+    let entry = c .before .before .before in
+    too-long (entry .args .line .now) (c .if2 .taken)
 
 frame-in-requires : tie.Need-frame-in-requires
 unfolding valueTable valueOf

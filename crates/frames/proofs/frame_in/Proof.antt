@@ -15,11 +15,17 @@ are-digits-requires : tie.Need-are-digits-requires
 are-digits-requires c κs = search needs
 
 -- the line is digits, and the table is the reader's
-digits : (c : tie.Then1) → areDigits (c .before .before .before .args .line .now) ≡ true
+digits : (c : tie.Then1) →
+    let entry = c .before .before .before in
+    areDigits (entry .args .line .now) ≡ true
 digits c = sym (c .before .are-digits .ensures) ∙ c .if1 .taken
 
-readable : (c : tie.Then1) → Readable (c .before .before .before .args .table .now) (c .before .before .before .args .line .now)
-readable c = record { table = c .before .before .before .pre .0; digits = digits c }
+readable : (c : tie.Then1) →
+    let entry = c .before .before .before in
+    Readable (entry .args .table .now) (entry .args .line .now)
+readable c =
+    let entry = c .before .before .before in
+    record { table = entry .pre .0; digits = digits c }
 
 number-requires : tie.Need-number-requires
 number-requires c κs = (readable c, omega arith, omega arith)
@@ -41,32 +47,55 @@ arc-frame-requires-2 c κs = readable (c .before .before)
 
 returns : tie.Need-returns
 unfolding ofKind
-returns c = c .size-frame .ensures ∙ by-kind _ 1 (digits (c .before .before .before)) (sym (c .before .before .number .ensures .0) ∙ c .before .match .keys1)
+returns c =
+    let at-if1 = c .before .before .before in
+    let number = c .before .before .number in
+    let match = c .before .match in
+    c .size-frame .ensures ∙ by-kind _ 1 (digits at-if1) (sym (number .ensures .0) ∙ match .keys1)
 
 returns-2 : tie.Need-returns-2
 unfolding ofKind
-returns-2 c = c .arc-frame .ensures ∙ by-kind _ 2 (digits (c .before .before .before)) (sym (c .before .before .number .ensures .0) ∙ c .before .match .keys2)
+returns-2 c =
+    let at-if1 = c .before .before .before in
+    let number = c .before .before .number in
+    let match = c .before .match in
+    c .arc-frame .ensures ∙ by-kind _ 2 (digits at-if1) (sym (number .ensures .0) ∙ match .keys2)
 
 returns-3 : tie.Need-returns-3
 unfolding ofKind
-returns-3 c = c .potentials-frame .ensures ∙ by-kind _ 3 (digits (c .before .before .before)) (sym (c .before .before .number .ensures .0) ∙ c .before .match .keys3)
+returns-3 c =
+    let at-if1 = c .before .before .before in
+    let number = c .before .before .number in
+    let match = c .before .match in
+    c .potentials-frame .ensures ∙ by-kind _ 3 (digits at-if1) (sym (number .ensures .0) ∙ match .keys3)
 
 returns-4 : tie.Need-returns-4
 unfolding ofKind
-returns-4 c = c .query-frame .ensures ∙ by-kind _ 4 (digits (c .before .before .before)) (sym (c .before .before .number .ensures .0) ∙ c .before .match .keys4)
+returns-4 c =
+    let at-if1 = c .before .before .before in
+    let number = c .before .before .number in
+    let match = c .before .match in
+    c .query-frame .ensures ∙ by-kind _ 4 (digits at-if1) (sym (number .ensures .0) ∙ match .keys4)
 
 returns-5 : tie.Need-returns-5
 unfolding ofKind
-returns-5 c = c .arc-frame2 .ensures ∙ by-kind _ 5 (digits (c .before .before .before)) (sym (c .before .before .number .ensures .0) ∙ c .before .match .keys5)
+returns-5 c =
+    let at-if1 = c .before .before .before in
+    let number = c .before .before .number in
+    let match = c .before .match in
+    c .arc-frame2 .ensures ∙ by-kind _ 5 (digits at-if1) (sym (number .ensures .0) ∙ match .keys5)
 
 returns-6 : tie.Need-returns-6
 unfolding ofKind
 returns-6 c =
-    let k = c .before .number .result in
+    let entry = c .before .before .before .before .before in
+    let at-if1 = c .before .before in
+    let number = c .before .number in
+    let k = number .result in
     let r = c .match .rest in
-    let other : Unsound ≡ ofKind k (c .before .before .before .before .before .args .line .now) =
+    let other : Unsound ≡ ofKind k (entry .args .line .now) =
     simp (ne-eqb k 1 (r .0 .0 .0 .0 .1), ne-eqb k 2 (r .0 .0 .0 .1), ne-eqb k 3 (r .0 .0 .1), ne-eqb k 4 (r .0 .1), ne-eqb k 5 (r .1)) in
-    other ∙ by-kind _ k (digits (c .before .before)) (sym (c .before .number .ensures .0))
+    other ∙ by-kind _ k (digits at-if1) (sym (number .ensures .0))
 
 returns-7 : tie.Need-returns-7
 unfolding frameOf

@@ -28,9 +28,9 @@ room-for-one c =
 -- the value that was read is a digit's
 below : (c : tie.After-value Inv-loop μ-loop) → c .value .result < 16
 below c =
-    let s = c .before .before .before .before .before in
-    let l = c .before .before .before .loop in
-    rw (c .value .ensures) (digit-value (s .args .line .now) (s .args .at + l .i) (s .pre .0 .digits) (omega arith))
+    let entry = c .before .before .before .before .before in
+    let loop = c .before .before .before .loop in
+    rw (c .value .ensures) (digit-value (entry .args .line .now) (entry .args .at + loop .i) (entry .pre .0 .digits) (omega arith))
 
 loop-holds : tie.Need-loop-holds Inv-loop μ-loop
 unfolding numberAt
@@ -46,7 +46,9 @@ shared-slice-read-value : tie.Need-shared-slice-read-value Inv-loop μ-loop
 shared-slice-read-value c = omega arith
 
 value-requires : tie.Need-value-requires Inv-loop μ-loop
-value-requires c κs = c .before .before .before .before .pre .0 .table
+value-requires c κs =
+    let entry = c .before .before .before .before in
+    entry .pre .0 .table
 
 cast-n : tie.Need-cast-n Inv-loop μ-loop
 cast-n c = omega (arith, below c)
@@ -62,22 +64,24 @@ loop-less c = omega arith
 
 loop-again : tie.Need-loop-again Inv-loop μ-loop
 loop-again c =
-    let a = c .before .before .before .before .before .args in
-    let l = c .before .before .before .loop in (
+    let entry = c .before .before .before .before .before in
+    let loop = c .before .before .before .loop in
+    let a = entry .args in (
       omega arith,
       rw (add-one, pow-suc) (omega (arith, below c)),
       rw (c .value .ensures)
-          (number-more (a .line .now) (a .at) (a .digits) (l .i) (l .n) (omega arith) (omega arith) ∙ l .inv .2),
+          (number-more (a .line .now) (a .at) (a .digits) (loop .i) (loop .n) (omega arith) (omega arith) ∙ loop .inv .2),
     )
 
 returns : tie.Need-returns Inv-loop μ-loop
 unfolding numberFrom
 returns c =
-    let a = c .before .before .before .args in
-    let l = c .before .loop in
-    let all : a .digits ≡ l .i = omega arith in
-    let none : a .digits - l .i ≡ 0 = omega arith in
-    (rw none at (l .inv .2), rw all (l .inv .1))
+    let entry = c .before .before .before in
+    let loop = c .before .loop in
+    let a = entry .args in
+    let all : a .digits ≡ loop .i = omega arith in
+    let none : a .digits - loop .i ≡ 0 = omega arith in
+    (rw none at (loop .inv .2), rw all (loop .inv .1))
 
 pub number-spec : {M : Type 1} → statement M
 number-spec =

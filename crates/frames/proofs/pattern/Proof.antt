@@ -36,30 +36,38 @@ enum-known-count c = search needs
 returns : tie.Need-returns
 unfolding patternOf
 returns c =
-    let a = c .before .before .before .before .args in
-    let f = c .before .decode .result in
+    let entry = c .before .before .before .before in
+    let decode = c .before .decode in
+    let a = entry .args in
+    let f = decode .result in
     let other : tagOf the-type f ≡ 4 → ⊥ = λ e.
     ⊎-elim (λ h. omega arith)
     (⊎-elim (λ h. omega arith) (⊎-elim (λ h. omega arith) (⊎-elim (λ h. omega arith) (λ h. omega arith))))
     (c .match .keys2) in
     let none : entriesOf f (patternDigits (a .line .now)) ≡ [] = no-entries f _ other in
-    rw (sym (c .before .decode .ensures), none) (nothing-placed (a .entries .now))
+    rw (sym (decode .ensures), none) (nothing-placed (a .entries .now))
 
 cast-n : tie.Need-cast-n
 cast-n c = search needs
 
 returns-2 : tie.Need-returns-2
 returns-2 c =
-    let a = c .before .before .before .before .before .before .before .args in
-    let e = sym (c .before .before .before .before .decode .ensures) ∙ c .before .before .count .given .1 in
+    let entry = c .before .before .before .before .before .before .before in
+    let decode = c .before .before .before .before .decode in
+    let count = c .before .before .count in
+    let a = entry .args in
+    let e = sym (decode .ensures) ∙ count .given .1 in
     rw (← query-pattern (a .line .now) e)
     (too-little-room _ (a .entries .now) (omega (arith, length-pattern (a .line .now) e)))
 
 write-entries-requires : tie.Need-write-entries-requires
 unfolding valueTable valueOf
 write-entries-requires c κs =
-    let a = c .before .before .before .before .before .before .before .before .before .args in
-    let e = sym (c .before .before .before .before .before .before .decode .ensures) ∙ c .before .before .before .before .count .given .1 in
+    let entry = c .before .before .before .before .before .before .before .before .before in
+    let decode = c .before .before .before .before .before .before .decode in
+    let count = c .before .before .before .before .count in
+    let a = entry .args in
+    let e = sym (decode .ensures) ∙ count .given .1 in
     let l = query-length (a .line .now) e in
     let most : length (a .line .now) ≤ 12 + length (a .entries .now) = omega arith in
     (refl, omega arith, most)
@@ -69,11 +77,15 @@ same-length c = search needs
 
 returns-3 : tie.Need-returns-3
 returns-3 c =
-    let a = c .before .before .before .before .before .before .before .before .before .before .before .before .args in
-    let e = sym (c .before .before .before .before .before .before .before .before .before .decode .ensures) ∙ c .before .before .before .before .before .before .before .count .given .1 in
+    let entry = c .before .before .before .before .before .before .before .before .before .before .before .before in
+    let decode = c .before .before .before .before .before .before .before .before .before .decode in
+    let count = c .before .before .before .before .before .before .before .count in
+    let write-entries = c .before .before .write-entries in
+    let a = entry .args in
+    let e = sym (decode .ensures) ∙ count .given .1 in
     let n = length-pattern (a .line .now) e in
     rw (← query-pattern (a .line .now) e)
-    (laid-placed _ (a .entries .now) _ _ (omega (arith, n)) (record { count-is = sym n; room-is = c .before .before .write-entries .ensures }))
+    (laid-placed _ (a .entries .now) _ _ (omega (arith, n)) (record { count-is = sym n; room-is = write-entries .ensures }))
 
 pub pattern-spec : {M : Type 1} → statement M
 pattern-spec =

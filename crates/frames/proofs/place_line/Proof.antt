@@ -7,8 +7,8 @@ use Rattle.frames.proofs.place_line.Tie as tie
 
 returns : tie.Need-returns
 returns c =
-    let s = c .before .before .before .before in
-    too-little-room _ (s .args .room .now) (omega (arith, s .pre .1))
+    let entry = c .before .before .before .before in
+    too-little-room _ (entry .args .room .now) (omega (arith, entry .pre .1))
 
 write-line-requires : tie.Need-write-line-requires
 write-line-requires c κs = search needs
@@ -18,8 +18,9 @@ same-length c = search needs
 
 returns-2 : tie.Need-returns-2
 returns-2 c =
-    let s = c .before .before .before .before .before .before .before .before in
-    laid-placed _ (s .args .room .now) _ _ (omega (arith, s .pre .1)) (c .before .before .write-line .ensures)
+    let entry = c .before .before .before .before .before .before .before .before in
+    let write-line = c .before .before .write-line in
+    laid-placed _ (entry .args .room .now) _ _ (omega (arith, entry .pre .1)) (write-line .ensures)
 
 pub place-line-spec : {M : Type 1} → statement M
 place-line-spec = tie.close (tie.spec returns write-line-requires same-length returns-2)

@@ -26,27 +26,35 @@ both-lengths c =
 abbrev BothFit : tie.Start → Type 0
 BothFit c = length (lineOf routeWidths (c .args .values .now)) + length (pathLine (c .args .path .now)) ≤ length (c .args .room .now)
 
-fits : (c : tie.Else2) → BothFit (c .before .before .before .before .before)
+fits : (c : tie.Else2) →
+    let entry = c .before .before .before .before .before in
+    BothFit entry
 fits c =
-    let s = c .before .before .before .before .before in
-    omega (arith, route-length s, length-path (s .args .path .now), c .if2 .left, c .before .if1 .left)
+    let entry = c .before .before .before .before .before in
+    let if1 = c .before .if1 in
+    omega (arith, route-length entry, length-path (entry .args .path .now), c .if2 .left, if1 .left)
 
 -- the route's line leaves room for the path's
 leaves :
     (c : tie.After-slice-known2)
-    → c .before .before .write-line .result + length (pathLine (c .before .before .before .before .before .before .before .before .before .before .args .path .now)) ≤ length (c .before .before .write-line .last .0)
+    →
+    let entry = c .before .before .before .before .before .before .before .before .before .before in
+    let write-line = c .before .before .write-line in
+    write-line .result + length (pathLine (entry .args .path .now)) ≤ length (write-line .last .0)
 leaves c =
-    let a = c .before .before .before .before .before .before .before .before .before .before .args in
-    let w = c .before .before .write-line in
-    laid-leaves (lineOf routeWidths (a .values .now)) (pathLine (a .path .now)) (a .room .now) (w .last .0) (w .result) (fits (c .before .before .before .before .before)) (w .ensures)
+    let entry = c .before .before .before .before .before .before .before .before .before .before in
+    let at-if2 = c .before .before .before .before .before in
+    let write-line = c .before .before .write-line in
+    let a = entry .args in
+    laid-leaves (lineOf routeWidths (a .values .now)) (pathLine (a .path .now)) (a .room .now) (write-line .last .0) (write-line .result) (fits at-if2) (write-line .ensures)
 
 add-if1 : tie.Need-add-if1
 add-if1 c = search needs
 
 returns : tie.Need-returns
 returns c =
-    let s = c .before .before .before .before in
-    too-little-room (text s) (s .args .room .now) (omega (arith, both-lengths s))
+    let entry = c .before .before .before .before in
+    too-little-room (text entry) (entry .args .room .now) (omega (arith, both-lengths entry))
 
 add-if2 : tie.Need-add-if2
 add-if2 c = search needs
@@ -56,17 +64,18 @@ sub-if2 c = search needs
 
 returns-2 : tie.Need-returns-2
 returns-2 c =
-    let s = c .before .before .before .before .before in
-    too-little-room (text s) (s .args .room .now) (omega (arith, both-lengths s))
+    let entry = c .before .before .before .before .before in
+    too-little-room (text entry) (entry .args .room .now) (omega (arith, both-lengths entry))
 
 slice-aggregate-write-line : tie.Need-slice-aggregate-write-line
 slice-aggregate-write-line c = search needs
 
 write-line-requires : tie.Need-write-line-requires
 write-line-requires c κs =
-    let s = c .before .before .before .before .before .before .before in
-    let same : 7 ≡ length (s .args .values .now) = sym (s .pre) in
-    let room : length (lineOf routeWidths (s .args .values .now)) ≤ length (s .args .room .now) = omega (arith, fits (c .before .before)) in
+    let entry = c .before .before .before .before .before .before .before in
+    let at-if2 = c .before .before in
+    let same : 7 ≡ length (entry .args .values .now) = sym (entry .pre) in
+    let room : length (lineOf routeWidths (entry .args .values .now)) ≤ length (entry .args .room .now) = omega (arith, fits at-if2) in
     (same, room)
 
 sub-write-path : tie.Need-sub-write-path
@@ -80,30 +89,33 @@ part-write-path-end c = search needs
 
 write-path-requires : tie.Need-write-path-requires
 write-path-requires c κs =
-    let w = c .before .before .before .write-line in
-    let s = c .before .before .before .before .before .before .before .before .before .before .before in
-    rw length-rest (omega (arith, leaves (c .before), w .ensures .count-is, route-length s))
+    let entry = c .before .before .before .before .before .before .before .before .before .before .before in
+    let write-line = c .before .before .before .write-line in
+    let at-slice-known2 = c .before in
+    rw length-rest (omega (arith, leaves at-slice-known2, write-line .ensures .count-is, route-length entry))
 
 add-result : tie.Need-add-result
 add-result c =
-    let w = c .before .before .before .before .before .before .write-line in
-    let v = c .before .before .write-path in
-    let s = c .before .before .before .before .before .before .before .before .before .before .before .before .before .before in
-    omega (arith, leaves (c .before .before .before .before), v .ensures .count-is, ap length (w .ensures .room-is), s .good)
+    let entry = c .before .before .before .before .before .before .before .before .before .before .before .before .before .before in
+    let write-line = c .before .before .before .before .before .before .write-line in
+    let at-slice-known2 = c .before .before .before .before in
+    let write-path = c .before .before .write-path in
+    omega (arith, leaves at-slice-known2, write-path .ensures .count-is, ap length (write-line .ensures .room-is), entry .good)
 
 same-length : tie.Need-same-length
 same-length c = search needs
 
 returns-3 : tie.Need-returns-3
 returns-3 c =
-    let s = c .before .before .before .before .before .before .before .before .before .before .before .before .before .before in
-    let a = s .args in
-    let w = c .before .before .before .before .before .before .write-line in
-    let v = c .before .before .write-path in
-    let f = fits (c .before .before .before .before .before .before .before .before .before) in
+    let entry = c .before .before .before .before .before .before .before .before .before .before .before .before .before .before in
+    let at-if2 = c .before .before .before .before .before .before .before .before .before in
+    let write-line = c .before .before .before .before .before .before .write-line in
+    let write-path = c .before .before .write-path in
+    let a = entry .args in
+    let f = fits at-if2 in
     let whole = length-append (lineOf routeWidths (a .values .now)) (pathLine (a .path .now)) in
-    laid-placed (text s) (a .room .now) _ _ (omega (arith, f, whole))
-    (laid-after _ _ (a .room .now) (w .last .0) (v .last .0) (w .result) (v .result) f (w .ensures) (v .ensures))
+    laid-placed (text entry) (a .room .now) _ _ (omega (arith, f, whole))
+    (laid-after _ _ (a .room .now) (write-line .last .0) (write-path .last .0) (write-line .result) (write-path .result) f (write-line .ensures) (write-path .ensures))
 
 pub place-route-spec : {M : Type 1} → statement M
 place-route-spec =

@@ -47,9 +47,15 @@ signed-requires-2 c κs = search needs
 
 returns-2 : tie.Need-returns-2
 returns-2 c =
-    some-potentials (c .before .before .before .before .before .before .before .args .line .now) (c .before .before .before .before .before .if1 .left) (c .before .before .before .before .number .ensures .0)
-    (toZ-ofZ {w = w32} {z = c .before .before .signed .result} (record { sfits = c .before .before .signed .ok }) ∙ c .before .before .signed .ensures ∙ ap signedOf (c .before .before .before .number2 .ensures .0))
-    (toZ-ofZ {w = w32} {z = c .signed2 .result} (record { sfits = c .signed2 .ok }) ∙ c .signed2 .ensures ∙ ap signedOf (c .before .number3 .ensures .0))
+    let entry = c .before .before .before .before .before .before .before in
+    let if1 = c .before .before .before .before .before .if1 in
+    let number = c .before .before .before .before .number in
+    let number2 = c .before .before .before .number2 in
+    let signed = c .before .before .signed in
+    let number3 = c .before .number3 in
+    some-potentials (entry .args .line .now) (if1 .left) (number .ensures .0)
+    (toZ-ofZ {w = w32} {z = signed .result} (record { sfits = signed .ok }) ∙ signed .ensures ∙ ap signedOf (number2 .ensures .0))
+    (toZ-ofZ {w = w32} {z = c .signed2 .result} (record { sfits = c .signed2 .ok }) ∙ c .signed2 .ensures ∙ ap signedOf (number3 .ensures .0))
 
 pub potentials-frame-spec : {M : Type 1} → statement M
 potentials-frame-spec =

@@ -37,8 +37,10 @@ cast-if2 c = search needs
 
 returns-2 : tie.Need-returns-2
 returns-2 c =
-    let s = c .before .before .before .before .args .line .now in
-    no-query s (λ e. c .if2 .taken (omega (arith, c .before .number .ensures .0)))
+    let entry = c .before .before .before .before in
+    let number = c .before .number in
+    let s = entry .args .line .now in
+    no-query s (λ e. c .if2 .taken (omega (arith, number .ensures .0)))
 
 number-requires-2 : tie.Need-number-requires-2
 number-requires-2 c κs = search needs
@@ -57,9 +59,12 @@ cast-t11 c = search needs
 
 returns-3 : tie.Need-returns-3
 returns-3 c =
-    let s = c .before .before .before .before .before .before .args .line .now in
-    let same : length s ≡ 12 + numberAt s 10 2 = omega (arith, c .before .before .before .number .ensures .0) in
-    a-query s same (c .before .number2 .ensures .0) (c .number3 .ensures .0) (c .before .before .before .number .ensures .0)
+    let entry = c .before .before .before .before .before .before in
+    let number = c .before .before .before .number in
+    let number2 = c .before .number2 in
+    let s = entry .args .line .now in
+    let same : length s ≡ 12 + numberAt s 10 2 = omega (arith, number .ensures .0) in
+    a-query s same (number2 .ensures .0) (c .number3 .ensures .0) (number .ensures .0)
 
 pub query-frame-spec : {M : Type 1} → statement M
 query-frame-spec =

@@ -24,7 +24,9 @@ cast-result-2 : tie.Need-cast-result-2
 cast-result-2 c = search needs
 
 -- the difference, as a number
-difference : (c : tie.Else1) → negsuc 0 -ℤ toZ w32 (4294967295 - c .before .args .bits) ≡ negsuc (4294967295 - c .before .args .bits)
+difference : (c : tie.Else1) →
+    let entry = c .before in
+    negsuc 0 -ℤ toZ w32 (4294967295 - entry .args .bits) ≡ negsuc (4294967295 - entry .args .bits)
 difference c =
     let small : 4294967295 - c .before .args .bits < 2147483648 = omega arith in
     rw (toZ-pos w32 small) (minus-one-less _)

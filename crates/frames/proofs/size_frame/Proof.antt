@@ -36,7 +36,11 @@ cast-arcs : tie.Need-cast-arcs
 cast-arcs c = search needs
 
 returns-2 : tie.Need-returns-2
-returns-2 c = a-size (c .before .before .before .before .args .line .now) (c .before .before .if1 .left) (c .before .number .ensures .0) (c .number2 .ensures .0)
+returns-2 c =
+    let entry = c .before .before .before .before in
+    let if1 = c .before .before .if1 in
+    let number = c .before .number in
+    a-size (entry .args .line .now) (if1 .left) (number .ensures .0) (c .number2 .ensures .0)
 
 pub size-frame-spec : {M : Type 1} → statement M
 size-frame-spec =

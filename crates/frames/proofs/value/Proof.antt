@@ -16,8 +16,9 @@ element-copy-out-result c = search needs
 returns : tie.Need-returns
 unfolding valueTable
 returns c =
-    let within : c .before .args .byte < 256 = omega arith in
-    ap (λ (l : List ℕ). getD l (c .before .args .byte) 0) (c .before .pre) ∙ table-at valueOf 256 (c .before .args .byte) within
+    let entry = c .before in
+    let within : entry .args .byte < 256 = omega arith in
+    ap (λ (l : List ℕ). getD l (entry .args .byte) 0) (entry .pre) ∙ table-at valueOf 256 (entry .args .byte) within
 
 pub value-spec : {M : Type 1} → statement M
 value-spec = tie.close (tie.spec element-copy-out-result returns)

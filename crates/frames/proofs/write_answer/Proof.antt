@@ -25,19 +25,28 @@ same-length : tie.Need-same-length
 same-length c = search needs
 
 returns : tie.Need-returns
-returns c = rw (c .before .before .before .before .before .answer .given .1) (c .before .before .write-route .ensures)
+returns c =
+    let answer = c .before .before .before .before .before .answer in
+    let write-route = c .before .before .write-route in
+    rw (answer .given .1) (write-route .ensures)
 
 same-length-2 : tie.Need-same-length-2
 same-length-2 c = search needs
 
 returns-2 : tie.Need-returns-2
-returns-2 c = rw (c .before .before .before .before .before .answer2 .given .1) (c .before .before .write-no-route .ensures)
+returns-2 c =
+    let answer2 = c .before .before .before .before .before .answer2 in
+    let write-no-route = c .before .before .write-no-route in
+    rw (answer2 .given .1) (write-no-route .ensures)
 
 same-length-3 : tie.Need-same-length-3
 same-length-3 c = search needs
 
 returns-3 : tie.Need-returns-3
-returns-3 c = rw (c .before .before .before .before .before .answer3 .given .1) (c .before .before .write-refusal .ensures)
+returns-3 c =
+    let answer3 = c .before .before .before .before .before .answer3 in
+    let write-refusal = c .before .before .write-refusal in
+    rw (answer3 .given .1) (write-refusal .ensures)
 
 pub write-answer-spec : {M : Type 1} → statement M
 write-answer-spec =

@@ -19,7 +19,9 @@ abbrev μ-loop : tie.MeasureT-loop
 
 loop-holds : tie.Need-loop-holds Inv-loop μ-loop
 unfolding patternDigits
-loop-holds c = (omega arith, underway-start _ (c .before .before .args .entries .now) (omega (arith, length-entries (c .before .before .args .line .now))))
+loop-holds c =
+    let entry = c .before .before in
+    (omega arith, underway-start _ (entry .args .entries .now) (omega (arith, length-entries (entry .args .line .now))))
 
 sub-loop : tie.Need-sub-loop Inv-loop μ-loop
 sub-loop c = omega arith
@@ -31,7 +33,9 @@ shared-slice-read-value : tie.Need-shared-slice-read-value Inv-loop μ-loop
 shared-slice-read-value c = omega arith
 
 value-requires : tie.Need-value-requires Inv-loop μ-loop
-value-requires c κs = c .before .before .before .before .before .pre .0
+value-requires c κs =
+    let entry = c .before .before .before .before .before in
+    entry .pre .0
 
 slice-write-entries : tie.Need-slice-write-entries Inv-loop μ-loop
 slice-write-entries c = omega arith
@@ -45,10 +49,11 @@ loop-less c = omega arith
 loop-again : tie.Need-loop-again Inv-loop μ-loop
 unfolding patternDigits
 loop-again c =
-    let a = c .before .before .before .before .before .before .args in
-    let l = c .before .before .before .loop in
-    let more : entriesLeft (a .line .now) (l .i) ≡ c .value .result ∷ entriesLeft (a .line .now) (l .i + 1) = rw (c .value .ensures) (entries-more (a .line .now) (l .i) (omega arith)) in
-    (omega arith, underway-entry _ (a .entries .now) (l .entries) (l .i) (c .value .result) _ (rw more at (l .inv .1)))
+    let entry = c .before .before .before .before .before .before in
+    let loop = c .before .before .before .loop in
+    let a = entry .args in
+    let more : entriesLeft (a .line .now) (loop .i) ≡ c .value .result ∷ entriesLeft (a .line .now) (loop .i + 1) = rw (c .value .ensures) (entries-more (a .line .now) (loop .i) (omega arith)) in
+    (omega arith, underway-entry _ (a .entries .now) (loop .entries) (loop .i) (c .value .result) _ (rw more at (loop .inv .1)))
 
 same-length : tie.Need-same-length Inv-loop μ-loop
 same-length c = c .before .loop .inv .1 .size
@@ -56,9 +61,10 @@ same-length c = c .before .loop .inv .1 .size
 returns : tie.Need-returns Inv-loop μ-loop
 unfolding patternDigits
 returns c =
-    let a = c .before .before .before .before .args in
-    let l = c .before .loop in
-    underway-end _ (a .entries .now) (l .entries) (l .i) (rw (entries-all-read (a .line .now) (l .i) (omega arith)) at (l .inv .1)) .room-is
+    let entry = c .before .before .before .before in
+    let loop = c .before .loop in
+    let a = entry .args in
+    underway-end _ (a .entries .now) (loop .entries) (loop .i) (rw (entries-all-read (a .line .now) (loop .i) (omega arith)) at (loop .inv .1)) .room-is
 
 pub write-entries-spec : {M : Type 1} → statement M
 write-entries-spec =

@@ -39,12 +39,12 @@ loop-less c = omega arith
 
 loop-again : tie.Need-loop-again Inv-loop μ-loop
 loop-again c =
-    let l = c .before .before .loop in
-    let one : l .i ≡ suc (l .i - 1) = omega arith in (
+    let loop = c .before .before .loop in
+    let one : loop .i ≡ suc (loop .i - 1) = omega arith in (
       omega arith,
-      simp length-set (l .inv .1),
+      simp length-set (loop .inv .1),
       rw (c .digit .ensures)
-          (digits-written (l .room) (l .i - 1) (l .rest) (omega arith) ∙ rw (← one) (l .inv .2)),
+          (digits-written (loop .room) (loop .i - 1) (loop .rest) (omega arith) ∙ rw (← one) (loop .inv .2)),
     )
 
 same-length : tie.Need-same-length Inv-loop μ-loop
@@ -53,9 +53,11 @@ same-length c = c .before .loop .inv .1
 returns : tie.Need-returns Inv-loop μ-loop
 unfolding digitsOf
 returns c =
-    let none : c .before .loop .i ≡ 0 = omega arith in
-    let a = c .before .before .before .args in
-    (rw none at (c .before .loop .inv .2)) ∙ laid-before (digitsOf (a .digits) (a .n)) (a .room .now) (a .digits) (length-digits (a .digits) (a .n))
+    let entry = c .before .before .before in
+    let loop = c .before .loop in
+    let none : loop .i ≡ 0 = omega arith in
+    let a = entry .args in
+    (rw none at (loop .inv .2)) ∙ laid-before (digitsOf (a .digits) (a .n)) (a .room .now) (a .digits) (length-digits (a .digits) (a .n))
 
 pub write-field-spec : {M : Type 1} → statement M
 write-field-spec =

@@ -19,24 +19,34 @@ abbrev μ-loop : tie.MeasureT-loop
 μ-loop room₀ widths values at₀ i₀ room at i = length widths - i
 
 -- the next field fits
-fits : (c : tie.In-loop Inv-loop μ-loop) → c .before .loop .at + getD (c .before .before .before .before .before .args .widths .now) (c .before .loop .i) 0 ≤ length (c .before .loop .room)
+fits : (c : tie.In-loop Inv-loop μ-loop) →
+    let entry = c .before .before .before .before .before in
+    let loop = c .before .loop in
+    loop .at + getD (entry .args .widths .now) (loop .i) 0 ≤ length (loop .room)
 fits c =
-    let a = c .before .before .before .before .before .args in
-    let l = c .before .loop in
-    field-fits _ (a .room .now) (l .room) (l .at) (a .widths .now) (a .values .now) (l .i) (l .inv .1) _ _ (omega arith) (omega arith) refl refl
+    let entry = c .before .before .before .before .before in
+    let loop = c .before .loop in
+    let a = entry .args in
+    field-fits _ (a .room .now) (loop .room) (loop .at) (a .widths .now) (a .values .now) (loop .i) (loop .inv .1) _ _ (omega arith) (omega arith) refl refl
 
 -- after the last field, the line feed is left
 last :
     (c : tie.After-loop Inv-loop μ-loop)
-    → Underway (lineOf (c .before .before .before .before .before .args .widths .now) (c .before .before .before .before .before .args .values .now))
-    (c .before .before .before .before .before .args .room .now) (c .before .loop .room) (c .before .loop .at) (lineFeed ∷ [])
+    →
+    let entry = c .before .before .before .before .before in
+    let loop = c .before .loop in
+    Underway (lineOf (entry .args .widths .now) (entry .args .values .now))
+    (entry .args .room .now) (loop .room) (loop .at) (lineFeed ∷ [])
 last c =
-    let a = c .before .before .before .before .before .args in
-    let l = c .before .loop in
-    line-feed-left _ (a .room .now) (l .room) (l .at) (a .widths .now) (a .values .now) (l .i) (l .inv .1) (omega arith)
+    let entry = c .before .before .before .before .before in
+    let loop = c .before .loop in
+    let a = entry .args in
+    line-feed-left _ (a .room .now) (loop .room) (loop .at) (a .widths .now) (a .values .now) (loop .i) (loop .inv .1) (omega arith)
 
 loop-holds : tie.Need-loop-holds Inv-loop μ-loop
-loop-holds c = (omega arith, underway-start _ (c .before .before .before .args .room .now) (c .before .before .before .pre .1))
+loop-holds c =
+    let entry = c .before .before .before in
+    (omega arith, underway-start _ (entry .args .room .now) (entry .pre .1))
 
 mul-digits : tie.Need-mul-digits Inv-loop μ-loop
 mul-digits c = search needs
@@ -60,10 +70,15 @@ shared-slice-read-write-field : tie.Need-shared-slice-read-write-field Inv-loop 
 shared-slice-read-write-field c = omega arith
 
 write-field-requires : tie.Need-write-field-requires Inv-loop μ-loop
-write-field-requires c κs = lent-room (c .before .before .before .before .loop .room) (c .before .before .before .before .loop .at) _ (fits (c .before .before .before))
+write-field-requires c κs =
+    let loop = c .before .before .before .before .loop in
+    let at-loop-test = c .before .before .before in
+    lent-room (loop .room) (loop .at) _ (fits at-loop-test)
 
 add-at : tie.Need-add-at Inv-loop μ-loop
-add-at c = omega (arith, fits (c .before .before .before .before .before .before))
+add-at c =
+    let at-loop-test = c .before .before .before .before .before .before in
+    omega (arith, fits at-loop-test)
 
 add-i : tie.Need-add-i Inv-loop μ-loop
 add-i c = omega arith
@@ -73,11 +88,12 @@ loop-less c = omega arith
 
 loop-again : tie.Need-loop-again Inv-loop μ-loop
 loop-again c =
-    let a = c .before .before .before .before .before .before .before .before .before .before .before .args in
-    let l = c .before .before .before .before .before .before .before .loop in
-    let w = c .before .before .write-field in (
+    let entry = c .before .before .before .before .before .before .before .before .before .before .before in
+    let loop = c .before .before .before .before .before .before .before .loop in
+    let write-field = c .before .before .write-field in
+    let a = entry .args in (
       omega arith,
-      field-more _ (a .room .now) (l .room) (l .at) (a .widths .now) (a .values .now) (l .i) (l .inv .1) _ _ (omega arith) (omega arith) refl refl (w .last .0) (w .ensures),
+      field-more _ (a .room .now) (loop .room) (loop .at) (a .widths .now) (a .values .now) (loop .i) (loop .inv .1) _ _ (omega arith) (omega arith) refl refl (write-field .last .0) (write-field .ensures),
     )
 
 slice-write-room : tie.Need-slice-write-room Inv-loop μ-loop
@@ -91,8 +107,9 @@ same-length c = simp length-set (c .before .loop .inv .1 .size)
 
 returns : tie.Need-returns Inv-loop μ-loop
 returns c =
-    let l = c .before .loop in
-    underway-end _ _ _ _ (underway-entry _ (c .before .before .before .before .before .args .room .now) (l .room) (l .at) lineFeed [] (last c))
+    let entry = c .before .before .before .before .before in
+    let loop = c .before .loop in
+    underway-end _ _ _ _ (underway-entry _ (entry .args .room .now) (loop .room) (loop .at) lineFeed [] (last c))
 
 pub write-line-spec : {M : Type 1} → statement M
 write-line-spec =

@@ -30,23 +30,32 @@ width : (path : List ℕ) (i : ℕ) → i < length path → getD (fours path) i 
 width path i h = getD-replicate (length path) i 4 0 h
 
 -- the next node fits
-fits : (c : tie.In-loop Inv-loop μ-loop) → c .before .loop .end + 4 ≤ length (c .before .loop .room)
+fits : (c : tie.In-loop Inv-loop μ-loop) →
+    let loop = c .before .loop in
+    loop .end + 4 ≤ length (loop .room)
 fits c =
-    let p = c .before .before .before .before .args .path .now in
-    let l = c .before .loop in
-    field-fits _ (c .before .before .before .before .args .room .now) (l .room) (l .end) (fours p) p (l .i) (l .inv .1) _ _ (omega (arith, widths p)) (omega arith) (width p (l .i) (omega arith)) refl
+    let entry = c .before .before .before .before in
+    let loop = c .before .loop in
+    let p = entry .args .path .now in
+    field-fits _ (entry .args .room .now) (loop .room) (loop .end) (fours p) p (loop .i) (loop .inv .1) _ _ (omega (arith, widths p)) (omega arith) (width p (loop .i) (omega arith)) refl
 
 -- after the last node, the line feed is left
 last :
     (c : tie.After-loop Inv-loop μ-loop)
-    → Underway (nodesLine (c .before .before .before .before .args .path .now)) (c .before .before .before .before .args .room .now) (c .before .loop .room) (c .before .loop .end) (lineFeed ∷ [])
+    →
+    let entry = c .before .before .before .before in
+    let loop = c .before .loop in
+    Underway (nodesLine (entry .args .path .now)) (entry .args .room .now) (loop .room) (loop .end) (lineFeed ∷ [])
 last c =
-    let p = c .before .before .before .before .args .path .now in
-    let l = c .before .loop in
-    line-feed-left _ (c .before .before .before .before .args .room .now) (l .room) (l .end) (fours p) p (l .i) (l .inv .1) (omega (arith, widths p))
+    let entry = c .before .before .before .before in
+    let loop = c .before .loop in
+    let p = entry .args .path .now in
+    line-feed-left _ (entry .args .room .now) (loop .room) (loop .end) (fours p) p (loop .i) (loop .inv .1) (omega (arith, widths p))
 
 loop-holds : tie.Need-loop-holds Inv-loop μ-loop
-loop-holds c = (omega arith, underway-start _ (c .before .before .args .room .now) (c .before .before .pre))
+loop-holds c =
+    let entry = c .before .before in
+    (omega arith, underway-start _ (entry .args .room .now) (entry .pre))
 
 sub-write-field : tie.Need-sub-write-field Inv-loop μ-loop
 sub-write-field c = omega (arith, fits c)
@@ -64,13 +73,20 @@ shared-slice-read-write-field : tie.Need-shared-slice-read-write-field Inv-loop 
 shared-slice-read-write-field c = omega arith
 
 cast-write-field : tie.Need-cast-write-field Inv-loop μ-loop
-cast-write-field c = omega (arith, c .shared-slice-known2 .given (c .before .before .before .loop .i))
+cast-write-field c =
+    let loop = c .before .before .before .loop in
+    omega (arith, c .shared-slice-known2 .given (loop .i))
 
 write-field-requires : tie.Need-write-field-requires Inv-loop μ-loop
-write-field-requires c κs = lent-room (c .before .before .before .loop .room) (c .before .before .before .loop .end) 4 (fits (c .before .before))
+write-field-requires c κs =
+    let loop = c .before .before .before .loop in
+    let at-loop-test = c .before .before in
+    lent-room (loop .room) (loop .end) 4 (fits at-loop-test)
 
 add-end : tie.Need-add-end Inv-loop μ-loop
-add-end c = omega (arith, fits (c .before .before .before .before .before))
+add-end c =
+    let at-loop-test = c .before .before .before .before .before in
+    omega (arith, fits at-loop-test)
 
 add-i : tie.Need-add-i Inv-loop μ-loop
 add-i c = omega arith
@@ -80,12 +96,13 @@ loop-less c = omega arith
 
 loop-again : tie.Need-loop-again Inv-loop μ-loop
 loop-again c =
-    let p = c .before .before .before .before .before .before .before .before .before .args .path .now in
-    let l = c .before .before .before .before .before .before .loop in
-    let w = c .before .before .write-field in (
+    let entry = c .before .before .before .before .before .before .before .before .before in
+    let loop = c .before .before .before .before .before .before .loop in
+    let write-field = c .before .before .write-field in
+    let p = entry .args .path .now in (
       omega arith,
-      field-more _ (c .before .before .before .before .before .before .before .before .before .args .room .now) (l .room) (l .end) (fours p) p (l .i) (l .inv .1) _ _ (omega (arith, widths p)) (omega arith)
-          (width p (l .i) (omega arith)) refl (w .last .0) (w .ensures),
+      field-more _ (entry .args .room .now) (loop .room) (loop .end) (fours p) p (loop .i) (loop .inv .1) _ _ (omega (arith, widths p)) (omega arith)
+          (width p (loop .i) (omega arith)) refl (write-field .last .0) (write-field .ensures),
     )
 
 slice-write-room : tie.Need-slice-write-room Inv-loop μ-loop
@@ -99,8 +116,9 @@ same-length c = simp length-set (c .before .loop .inv .1 .size)
 
 returns : tie.Need-returns Inv-loop μ-loop
 returns c =
-    let l = c .before .loop in
-    underway-end _ _ _ _ (underway-entry _ (c .before .before .before .before .args .room .now) (l .room) (l .end) lineFeed [] (last c))
+    let entry = c .before .before .before .before in
+    let loop = c .before .loop in
+    underway-end _ _ _ _ (underway-entry _ (entry .args .room .now) (loop .room) (loop .end) lineFeed [] (last c))
 
 pub write-nodes-spec : {M : Type 1} → statement M
 write-nodes-spec =

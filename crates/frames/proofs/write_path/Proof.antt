@@ -16,18 +16,26 @@ use Rattle.frames.proofs.write_path.Tie as tie
 fits : (c : tie.Start) → length (digitsOf 2 130) + length (nodesLine (c .args .path .now)) ≤ length (c .args .room .now)
 fits c = omega (arith, c .pre, length-append (digitsOf 2 130) (nodesLine (c .args .path .now)))
 
-kind : (c : tie.After-slice-known2) → Laid (digitsOf 2 130) (c .before .before .before .before .before .before .args .room .now) (c .before .before .write-field .last .0) 2
+kind : (c : tie.After-slice-known2) →
+    let entry = c .before .before .before .before .before .before in
+    let write-field = c .before .before .write-field in
+    Laid (digitsOf 2 130) (entry .args .room .now) (write-field .last .0) 2
 kind c = record { count-is = sym (length-digits 2 130); room-is = c .before .before .write-field .ensures }
 
 -- the kind leaves room for the nodes
-leaves : (c : tie.After-slice-known2) → 2 + length (nodesLine (c .before .before .before .before .before .before .args .path .now)) ≤ length (c .before .before .write-field .last .0)
+leaves : (c : tie.After-slice-known2) →
+    let entry = c .before .before .before .before .before .before in
+    let write-field = c .before .before .write-field in
+    2 + length (nodesLine (entry .args .path .now)) ≤ length (write-field .last .0)
 leaves c =
-    let s = c .before .before .before .before .before .before in
-    laid-leaves (digitsOf 2 130) (nodesLine (s .args .path .now)) (s .args .room .now) (c .before .before .write-field .last .0) 2 (fits s) (kind c)
+    let entry = c .before .before .before .before .before .before in
+    let write-field = c .before .before .write-field in
+    laid-leaves (digitsOf 2 130) (nodesLine (entry .args .path .now)) (entry .args .room .now) (write-field .last .0) 2 (fits entry) (kind c)
 
 write-field-requires : tie.Need-write-field-requires
 write-field-requires c κs =
-    let two : 2 ≤ length (c .before .before .before .args .room .now) = omega (arith, fits (c .before .before .before), length-digits 2 130) in
+    let entry = c .before .before .before in
+    let two : 2 ≤ length (entry .args .room .now) = omega (arith, fits entry, length-digits 2 130) in
     two
 
 sub-write-nodes : tie.Need-sub-write-nodes
@@ -40,21 +48,28 @@ part-write-nodes-end : tie.Need-part-write-nodes-end
 part-write-nodes-end c = search needs
 
 write-nodes-requires : tie.Need-write-nodes-requires
-write-nodes-requires c κs = lent-room (c .before .before .before .write-field .last .0) 2 _ (leaves (c .before))
+write-nodes-requires c κs =
+    let write-field = c .before .before .before .write-field in
+    let at-slice-known2 = c .before in
+    lent-room (write-field .last .0) 2 _ (leaves at-slice-known2)
 
 add-result : tie.Need-add-result
 add-result c =
-    let v = c .before .before .write-nodes in
-    omega (arith, leaves (c .before .before .before .before), v .ensures .count-is, c .before .before .before .before .before .before .before .before .before .before .good)
+    let entry = c .before .before .before .before .before .before .before .before .before .before in
+    let at-slice-known2 = c .before .before .before .before in
+    let write-nodes = c .before .before .write-nodes in
+    omega (arith, leaves at-slice-known2, write-nodes .ensures .count-is, entry .good)
 
 same-length : tie.Need-same-length
 same-length c = search needs
 
 returns : tie.Need-returns
 returns c =
-    let s = c .before .before .before .before .before .before .before .before .before .before in
-    let v = c .before .before .write-nodes in
-    laid-after _ _ (s .args .room .now) (c .before .before .before .before .before .before .write-field .last .0) (v .last .0) 2 (v .result) (fits s) (kind (c .before .before .before .before)) (v .ensures)
+    let entry = c .before .before .before .before .before .before .before .before .before .before in
+    let write-field = c .before .before .before .before .before .before .write-field in
+    let at-slice-known2 = c .before .before .before .before in
+    let write-nodes = c .before .before .write-nodes in
+    laid-after _ _ (entry .args .room .now) (write-field .last .0) (write-nodes .last .0) 2 (write-nodes .result) (fits entry) (kind at-slice-known2) (write-nodes .ensures)
 
 pub write-path-spec : {M : Type 1} → statement M
 write-path-spec =

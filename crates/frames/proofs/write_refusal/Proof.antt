@@ -24,7 +24,11 @@ same-length : tie.Need-same-length
 same-length c = search needs
 
 returns : tie.Need-returns
-returns c = rw (c .before .before .before .before .before .before .before .cause-number .ensures, c .before .before .before .before .before .before .cause-place .ensures) at (c .before .before .place-line .ensures)
+returns c =
+    let cause-number = c .before .before .before .before .before .before .before .cause-number in
+    let cause-place = c .before .before .before .before .before .before .cause-place in
+    let place-line = c .before .before .place-line in
+    rw (cause-number .ensures, cause-place .ensures) at (place-line .ensures)
 
 pub write-refusal-spec : {M : Type 1} → statement M
 write-refusal-spec =

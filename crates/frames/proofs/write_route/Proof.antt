@@ -23,7 +23,8 @@ slice-aggregate-place-route c = search needs
 
 slice-aggregate-place-route-2 : tie.Need-slice-aggregate-place-route-2
 slice-aggregate-place-route-2 c =
-    let a = c .before .before .before .before .before .before .before .before .before .before .args in
+    let entry = c .before .before .before .before .before .before .before .before .before .before in
+    let a = entry .args in
     sym (length-take-le (a .nodes) (a .path .now) (omega arith))
 
 place-route-requires : tie.Need-place-route-requires
@@ -46,8 +47,11 @@ same-length-2 c = search needs
 
 returns-2 : tie.Need-returns-2
 returns-2 c =
-    let a = c .before .before .before .before .before .before .before .before .before .before .before .before .args in
-    rw (take-all (a .nodes) (a .path .now) (c .before .before .before .before .before .if1 .left)) (c .before .before .place-route2 .ensures)
+    let entry = c .before .before .before .before .before .before .before .before .before .before .before .before in
+    let if1 = c .before .before .before .before .before .if1 in
+    let place-route2 = c .before .before .place-route2 in
+    let a = entry .args in
+    rw (take-all (a .nodes) (a .path .now) (if1 .left)) (place-route2 .ensures)
 
 pub write-route-spec : {M : Type 1} → statement M
 write-route-spec =

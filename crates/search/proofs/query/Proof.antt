@@ -14,8 +14,8 @@ asked s =
     query (network (s .args .nodes) (s .args .tails .now) (s .args .heads .now) (s .args .weights .now)) (s .args .forward .now) (s .args .backward .now)
     (s .args .start) (s .args .end) (s .args .pattern .now)
 
-abbrev entry : tie.Start → LentLists
-entry s =
+abbrev lent : tie.Start → LentLists
+lent s =
     lentLists (s .args .start-labels .now) (s .args .start-neighbours .now) (s .args .end-labels .now) (s .args .end-neighbours .now)
     (s .args .states .now) (s .args .path .now)
 
@@ -29,31 +29,55 @@ enum-told : tie.Need-enum-told
 enum-told c = search needs
 
 search-accepted-requires : tie.Need-search-accepted-requires
-search-accepted-requires c κs = sym (c .before .before .before .before .before .before .before .before .check-query .ensures) ∙ c .before .before .before .before .before .before .enum-told .given .1
+search-accepted-requires c κs =
+    let check-query = c .before .before .before .before .before .before .before .before .check-query in
+    let enum-told = c .before .before .before .before .before .before .enum-told in
+    sym (check-query .ensures) ∙ enum-told .given .1
 
 returns : tie.Need-returns
-returns c = kept-refused (asked (c .before .before .before .before .before .before .before .before .before .before .before .before .before .before)) (entry (c .before .before .before .before .before .before .before .before .before .before .before .before .before .before)) _ (sym (c .before .before .before .check-query .ensures) ∙ c .before .verdict .given .1)
+returns c =
+    let entry = c .before .before .before .before .before .before .before .before .before .before .before .before .before .before in
+    let check-query = c .before .before .before .check-query in
+    let verdict = c .before .verdict in
+    kept-refused (asked entry) (lent entry) _ (sym (check-query .ensures) ∙ verdict .given .1)
 
 same-length : tie.Need-same-length
-same-length c = c .before .before .before .before .before .before .before .before .before .before .before .before .search-accepted .kept .1 .1 .1 .1 .1 .1 .1 .1 .1 .0
+same-length c =
+    let search-accepted = c .before .before .before .before .before .before .before .before .before .before .before .before .search-accepted in
+    search-accepted .kept .1 .1 .1 .1 .1 .1 .1 .1 .1 .0
 
 same-length-2 : tie.Need-same-length-2
-same-length-2 c = c .before .before .before .before .before .before .before .before .before .before .before .before .search-accepted .kept .1 .1 .1 .1 .1 .1 .1 .1 .1 .1 .0
+same-length-2 c =
+    let search-accepted = c .before .before .before .before .before .before .before .before .before .before .before .before .search-accepted in
+    search-accepted .kept .1 .1 .1 .1 .1 .1 .1 .1 .1 .1 .0
 
 same-length-3 : tie.Need-same-length-3
-same-length-3 c = c .before .before .before .before .before .before .before .before .before .before .before .before .search-accepted .kept .1 .1 .1 .1 .1 .1 .1 .1 .1 .1 .1 .0
+same-length-3 c =
+    let search-accepted = c .before .before .before .before .before .before .before .before .before .before .before .before .search-accepted in
+    search-accepted .kept .1 .1 .1 .1 .1 .1 .1 .1 .1 .1 .1 .0
 
 same-length-4 : tie.Need-same-length-4
-same-length-4 c = c .before .before .before .before .before .before .before .before .before .before .before .before .search-accepted .kept .1 .1 .1 .1 .1 .1 .1 .1 .1 .1 .1 .1 .0
+same-length-4 c =
+    let search-accepted = c .before .before .before .before .before .before .before .before .before .before .before .before .search-accepted in
+    search-accepted .kept .1 .1 .1 .1 .1 .1 .1 .1 .1 .1 .1 .1 .0
 
 same-length-5 : tie.Need-same-length-5
-same-length-5 c = c .before .before .before .before .before .before .before .before .before .before .before .before .search-accepted .kept .1 .1 .1 .1 .1 .1 .1 .1 .1 .1 .1 .1 .1 .0
+same-length-5 c =
+    let search-accepted = c .before .before .before .before .before .before .before .before .before .before .before .before .search-accepted in
+    search-accepted .kept .1 .1 .1 .1 .1 .1 .1 .1 .1 .1 .1 .1 .1 .0
 
 same-length-6 : tie.Need-same-length-6
-same-length-6 c = c .before .before .before .before .before .before .before .before .before .before .before .before .search-accepted .kept .1 .1 .1 .1 .1 .1 .1 .1 .1 .1 .1 .1 .1 .1 .0
+same-length-6 c =
+    let search-accepted = c .before .before .before .before .before .before .before .before .before .before .before .before .search-accepted in
+    search-accepted .kept .1 .1 .1 .1 .1 .1 .1 .1 .1 .1 .1 .1 .1 .1 .0
 
 returns-2 : tie.Need-returns-2
-returns-2 c = kept-accepted (asked (c .before .before .before .before .before .before .before .before .before .before .before .before .before .before .before .before .before .before .before .before .before .before .before .before .before .before .before .before .before .before .before .before)) (entry (c .before .before .before .before .before .before .before .before .before .before .before .before .before .before .before .before .before .before .before .before .before .before .before .before .before .before .before .before .before .before .before .before)) _ _ (sym (c .before .before .before .before .before .before .before .before .before .before .before .before .before .before .before .before .before .before .before .before .before .check-query .ensures) ∙ c .before .before .before .before .before .before .before .before .before .before .before .before .before .before .before .before .before .before .before .enum-told .given .1) (c .before .before .before .before .before .before .before .before .before .before .before .before .search-accepted .ensures)
+returns-2 c =
+    let entry = c .before .before .before .before .before .before .before .before .before .before .before .before .before .before .before .before .before .before .before .before .before .before .before .before .before .before .before .before .before .before .before .before in
+    let check-query = c .before .before .before .before .before .before .before .before .before .before .before .before .before .before .before .before .before .before .before .before .before .check-query in
+    let enum-told = c .before .before .before .before .before .before .before .before .before .before .before .before .before .before .before .before .before .before .before .enum-told in
+    let search-accepted = c .before .before .before .before .before .before .before .before .before .before .before .before .search-accepted in
+    kept-accepted (asked entry) (lent entry) _ _ (sym (check-query .ensures) ∙ enum-told .given .1) (search-accepted .ensures)
 
 pub query-spec : {M : Type 1} → statement M
 query-spec =

@@ -17,75 +17,116 @@ asked s =
     query (network (s .args .nodes) (s .args .tails .now) (s .args .heads .now) (s .args .weights .now)) (s .args .forward .now) (s .args .backward .now)
     (s .args .start) (s .args .end) (s .args .pattern .now)
 
-abbrev entry : tie.Start → LentLists
-entry s =
+abbrev lent : tie.Start → LentLists
+lent s =
     lentLists (s .args .start-labels .now) (s .args .start-neighbours .now) (s .args .end-labels .now) (s .args .end-neighbours .now)
     (s .args .states .now) (s .args .path .now)
 
 -- each list is long enough
-enough : (s : tie.Start) → Enough (s .args .nodes) (lengths (entry s))
-enough s = accepted-enough (asked s) (lengths (entry s)) (s .pre)
+enough : (s : tie.Start) → Enough (s .args .nodes) (lengths (lent s))
+enough s = accepted-enough (asked s) (lengths (lent s)) (s .pre)
 
 slice-relend-prefix-searched : tie.Need-slice-relend-prefix-searched
-slice-relend-prefix-searched c = enough (c .before .before .before .before .before .before .before .before .before .before) .for-start-labels
+slice-relend-prefix-searched c =
+    let entry = c .before .before .before .before .before .before .before .before .before .before in
+    enough entry .for-start-labels
 
 slice-aggregate-searched : tie.Need-slice-aggregate-searched
-slice-aggregate-searched c = sym (length-take-le (c .before .before .before .before .before .before .before .before .before .before .before .args .nodes) (c .before .before .before .before .before .before .before .before .before .before .before .args .start-labels .now) (enough (c .before .before .before .before .before .before .before .before .before .before .before) .for-start-labels))
+slice-aggregate-searched c =
+    let entry = c .before .before .before .before .before .before .before .before .before .before .before in
+    sym (length-take-le (entry .args .nodes) (entry .args .start-labels .now) (enough entry .for-start-labels))
 
 slice-relend-prefix-searched-2 : tie.Need-slice-relend-prefix-searched-2
-slice-relend-prefix-searched-2 c = enough (c .before .before .before .before .before .before .before .before .before .before .before) .for-start-neighbours
+slice-relend-prefix-searched-2 c =
+    let entry = c .before .before .before .before .before .before .before .before .before .before .before in
+    enough entry .for-start-neighbours
 
 slice-aggregate-searched-2 : tie.Need-slice-aggregate-searched-2
-slice-aggregate-searched-2 c = sym (length-take-le (c .before .before .before .before .before .before .before .before .before .before .before .before .args .nodes) (c .before .before .before .before .before .before .before .before .before .before .before .before .args .start-neighbours .now) (enough (c .before .before .before .before .before .before .before .before .before .before .before .before) .for-start-neighbours))
+slice-aggregate-searched-2 c =
+    let entry = c .before .before .before .before .before .before .before .before .before .before .before .before in
+    sym (length-take-le (entry .args .nodes) (entry .args .start-neighbours .now) (enough entry .for-start-neighbours))
 
 slice-relend-prefix-searched-3 : tie.Need-slice-relend-prefix-searched-3
-slice-relend-prefix-searched-3 c = enough (c .before .before .before .before .before .before .before .before .before .before .before .before) .for-end-labels
+slice-relend-prefix-searched-3 c =
+    let entry = c .before .before .before .before .before .before .before .before .before .before .before .before in
+    enough entry .for-end-labels
 
 slice-aggregate-searched-3 : tie.Need-slice-aggregate-searched-3
-slice-aggregate-searched-3 c = sym (length-take-le (c .before .before .before .before .before .before .before .before .before .before .before .before .before .args .nodes) (c .before .before .before .before .before .before .before .before .before .before .before .before .before .args .end-labels .now) (enough (c .before .before .before .before .before .before .before .before .before .before .before .before .before) .for-end-labels))
+slice-aggregate-searched-3 c =
+    let entry = c .before .before .before .before .before .before .before .before .before .before .before .before .before in
+    sym (length-take-le (entry .args .nodes) (entry .args .end-labels .now) (enough entry .for-end-labels))
 
 slice-relend-prefix-searched-4 : tie.Need-slice-relend-prefix-searched-4
-slice-relend-prefix-searched-4 c = enough (c .before .before .before .before .before .before .before .before .before .before .before .before .before) .for-end-neighbours
+slice-relend-prefix-searched-4 c =
+    let entry = c .before .before .before .before .before .before .before .before .before .before .before .before .before in
+    enough entry .for-end-neighbours
 
 slice-aggregate-searched-4 : tie.Need-slice-aggregate-searched-4
-slice-aggregate-searched-4 c = sym (length-take-le (c .before .before .before .before .before .before .before .before .before .before .before .before .before .before .args .nodes) (c .before .before .before .before .before .before .before .before .before .before .before .before .before .before .args .end-neighbours .now) (enough (c .before .before .before .before .before .before .before .before .before .before .before .before .before .before) .for-end-neighbours))
+slice-aggregate-searched-4 c =
+    let entry = c .before .before .before .before .before .before .before .before .before .before .before .before .before .before in
+    sym (length-take-le (entry .args .nodes) (entry .args .end-neighbours .now) (enough entry .for-end-neighbours))
 
 slice-relend-prefix-searched-5 : tie.Need-slice-relend-prefix-searched-5
-slice-relend-prefix-searched-5 c = enough (c .before .before .before .before .before .before .before .before .before .before .before .before .before .before) .for-states
+slice-relend-prefix-searched-5 c =
+    let entry = c .before .before .before .before .before .before .before .before .before .before .before .before .before .before in
+    enough entry .for-states
 
 slice-aggregate-searched-5 : tie.Need-slice-aggregate-searched-5
-slice-aggregate-searched-5 c = sym (length-take-le (c .before .before .before .before .before .before .before .before .before .before .before .before .before .before .before .args .nodes) (c .before .before .before .before .before .before .before .before .before .before .before .before .before .before .before .args .states .now) (enough (c .before .before .before .before .before .before .before .before .before .before .before .before .before .before .before) .for-states))
+slice-aggregate-searched-5 c =
+    let entry = c .before .before .before .before .before .before .before .before .before .before .before .before .before .before .before in
+    sym (length-take-le (entry .args .nodes) (entry .args .states .now) (enough entry .for-states))
 
 searched-requires : tie.Need-searched-requires
 searched-requires c κs =
-    let s = c .before .before .before .before .before .before .before .before .before .before .before .before .before .before .before .before in
-    let l = entry s in
-    let e = enough s in
-    rw (length-take-le (s .args .nodes) (s .args .states .now) (e .for-states)) (accepted-sound (asked s) (lengths l) (s .pre), (cut-long l e, e .for-path))
+    let entry = c .before .before .before .before .before .before .before .before .before .before .before .before .before .before .before .before in
+    let l = lent entry in
+    let e = enough entry in
+    rw (length-take-le (entry .args .nodes) (entry .args .states .now) (e .for-states)) (
+      accepted-sound (asked entry) (lengths l) (entry .pre),
+      (cut-long l e, e .for-path),
+    )
 
 same-length : tie.Need-same-length
-same-length c = cut-same (c .before .before .before .before .before .before .before .before .before .before .before .before .before .before .before .before .before .before .before .before .before .before .before .before .before .before .before .before .before .args .nodes) (c .before .before .before .before .before .before .before .before .before .before .before .before .before .before .before .before .before .before .before .before .before .before .before .before .before .before .before .before .before .args .start-labels .now) (c .before .before .before .before .before .before .before .before .before .before .before .before .searched .last .1 .1 .1 .1 .1 .1 .1 .1 .0) (enough (c .before .before .before .before .before .before .before .before .before .before .before .before .before .before .before .before .before .before .before .before .before .before .before .before .before .before .before .before .before) .for-start-labels) (c .before .before .before .before .before .before .before .before .before .before .before .before .searched .kept .1 .1 .1 .1 .1 .1 .1 .1 .0)
+same-length c =
+    let entry = c .before .before .before .before .before .before .before .before .before .before .before .before .before .before .before .before .before .before .before .before .before .before .before .before .before .before .before .before .before in
+    let searched = c .before .before .before .before .before .before .before .before .before .before .before .before .searched in
+    cut-same (entry .args .nodes) (entry .args .start-labels .now) (searched .last .1 .1 .1 .1 .1 .1 .1 .1 .0) (enough entry .for-start-labels) (searched .kept .1 .1 .1 .1 .1 .1 .1 .1 .0)
 
 same-length-2 : tie.Need-same-length-2
-same-length-2 c = cut-same (c .before .before .before .before .before .before .before .before .before .before .before .before .before .before .before .before .before .before .before .before .before .before .before .before .before .before .before .before .before .args .nodes) (c .before .before .before .before .before .before .before .before .before .before .before .before .before .before .before .before .before .before .before .before .before .before .before .before .before .before .before .before .before .args .start-neighbours .now) (c .before .before .before .before .before .before .before .before .before .before .before .before .searched .last .1 .1 .1 .1 .1 .1 .1 .1 .1 .0) (enough (c .before .before .before .before .before .before .before .before .before .before .before .before .before .before .before .before .before .before .before .before .before .before .before .before .before .before .before .before .before) .for-start-neighbours) (c .before .before .before .before .before .before .before .before .before .before .before .before .searched .kept .1 .1 .1 .1 .1 .1 .1 .1 .1 .0)
+same-length-2 c =
+    let entry = c .before .before .before .before .before .before .before .before .before .before .before .before .before .before .before .before .before .before .before .before .before .before .before .before .before .before .before .before .before in
+    let searched = c .before .before .before .before .before .before .before .before .before .before .before .before .searched in
+    cut-same (entry .args .nodes) (entry .args .start-neighbours .now) (searched .last .1 .1 .1 .1 .1 .1 .1 .1 .1 .0) (enough entry .for-start-neighbours) (searched .kept .1 .1 .1 .1 .1 .1 .1 .1 .1 .0)
 
 same-length-3 : tie.Need-same-length-3
-same-length-3 c = cut-same (c .before .before .before .before .before .before .before .before .before .before .before .before .before .before .before .before .before .before .before .before .before .before .before .before .before .before .before .before .before .args .nodes) (c .before .before .before .before .before .before .before .before .before .before .before .before .before .before .before .before .before .before .before .before .before .before .before .before .before .before .before .before .before .args .end-labels .now) (c .before .before .before .before .before .before .before .before .before .before .before .before .searched .last .1 .1 .1 .1 .1 .1 .1 .1 .1 .1 .0) (enough (c .before .before .before .before .before .before .before .before .before .before .before .before .before .before .before .before .before .before .before .before .before .before .before .before .before .before .before .before .before) .for-end-labels) (c .before .before .before .before .before .before .before .before .before .before .before .before .searched .kept .1 .1 .1 .1 .1 .1 .1 .1 .1 .1 .0)
+same-length-3 c =
+    let entry = c .before .before .before .before .before .before .before .before .before .before .before .before .before .before .before .before .before .before .before .before .before .before .before .before .before .before .before .before .before in
+    let searched = c .before .before .before .before .before .before .before .before .before .before .before .before .searched in
+    cut-same (entry .args .nodes) (entry .args .end-labels .now) (searched .last .1 .1 .1 .1 .1 .1 .1 .1 .1 .1 .0) (enough entry .for-end-labels) (searched .kept .1 .1 .1 .1 .1 .1 .1 .1 .1 .1 .0)
 
 same-length-4 : tie.Need-same-length-4
-same-length-4 c = cut-same (c .before .before .before .before .before .before .before .before .before .before .before .before .before .before .before .before .before .before .before .before .before .before .before .before .before .before .before .before .before .args .nodes) (c .before .before .before .before .before .before .before .before .before .before .before .before .before .before .before .before .before .before .before .before .before .before .before .before .before .before .before .before .before .args .end-neighbours .now) (c .before .before .before .before .before .before .before .before .before .before .before .before .searched .last .1 .1 .1 .1 .1 .1 .1 .1 .1 .1 .1 .0) (enough (c .before .before .before .before .before .before .before .before .before .before .before .before .before .before .before .before .before .before .before .before .before .before .before .before .before .before .before .before .before) .for-end-neighbours) (c .before .before .before .before .before .before .before .before .before .before .before .before .searched .kept .1 .1 .1 .1 .1 .1 .1 .1 .1 .1 .1 .0)
+same-length-4 c =
+    let entry = c .before .before .before .before .before .before .before .before .before .before .before .before .before .before .before .before .before .before .before .before .before .before .before .before .before .before .before .before .before in
+    let searched = c .before .before .before .before .before .before .before .before .before .before .before .before .searched in
+    cut-same (entry .args .nodes) (entry .args .end-neighbours .now) (searched .last .1 .1 .1 .1 .1 .1 .1 .1 .1 .1 .1 .0) (enough entry .for-end-neighbours) (searched .kept .1 .1 .1 .1 .1 .1 .1 .1 .1 .1 .1 .0)
 
 same-length-5 : tie.Need-same-length-5
-same-length-5 c = cut-same (c .before .before .before .before .before .before .before .before .before .before .before .before .before .before .before .before .before .before .before .before .before .before .before .before .before .before .before .before .before .args .nodes) (c .before .before .before .before .before .before .before .before .before .before .before .before .before .before .before .before .before .before .before .before .before .before .before .before .before .before .before .before .before .args .states .now) (c .before .before .before .before .before .before .before .before .before .before .before .before .searched .last .1 .1 .1 .1 .1 .1 .1 .1 .1 .1 .1 .1 .0) (enough (c .before .before .before .before .before .before .before .before .before .before .before .before .before .before .before .before .before .before .before .before .before .before .before .before .before .before .before .before .before) .for-states) (c .before .before .before .before .before .before .before .before .before .before .before .before .searched .kept .1 .1 .1 .1 .1 .1 .1 .1 .1 .1 .1 .1 .0)
+same-length-5 c =
+    let entry = c .before .before .before .before .before .before .before .before .before .before .before .before .before .before .before .before .before .before .before .before .before .before .before .before .before .before .before .before .before in
+    let searched = c .before .before .before .before .before .before .before .before .before .before .before .before .searched in
+    cut-same (entry .args .nodes) (entry .args .states .now) (searched .last .1 .1 .1 .1 .1 .1 .1 .1 .1 .1 .1 .1 .0) (enough entry .for-states) (searched .kept .1 .1 .1 .1 .1 .1 .1 .1 .1 .1 .1 .1 .0)
 
 same-length-6 : tie.Need-same-length-6
-same-length-6 c = c .before .before .before .before .before .before .before .before .before .before .before .before .searched .kept .1 .1 .1 .1 .1 .1 .1 .1 .1 .1 .1 .1 .1 .0
+same-length-6 c =
+    let searched = c .before .before .before .before .before .before .before .before .before .before .before .before .searched in
+    searched .kept .1 .1 .1 .1 .1 .1 .1 .1 .1 .1 .1 .1 .1 .0
 
 returns : tie.Need-returns
 returns c =
-    let s = c .before .before .before .before .before .before .before .before .before .before .before .before .before .before .before .before .before .before .before .before .before .before .before .before .before .before .before .before .before in
-    let l = length-take-le (s .args .nodes) (s .args .states .now) (enough s .for-states) in
-    cut-left (asked s) (entry s) (rw l at (c .before .before .before .before .before .before .before .before .before .before .before .before .searched .ensures))
+    let entry = c .before .before .before .before .before .before .before .before .before .before .before .before .before .before .before .before .before .before .before .before .before .before .before .before .before .before .before .before .before in
+    let searched = c .before .before .before .before .before .before .before .before .before .before .before .before .searched in
+    let l = length-take-le (entry .args .nodes) (entry .args .states .now) (enough entry .for-states) in
+    cut-left (asked entry) (lent entry) (rw l at (searched .ensures))
 
 pub search-accepted-spec : {M : Type 1} → statement M
 search-accepted-spec =

@@ -35,7 +35,9 @@ shared-slice-copy-out-t33 : tie.Need-shared-slice-copy-out-t33
 shared-slice-copy-out-t33 c = search needs
 
 cast-t34 : tie.Need-cast-t34
-cast-t34 c = wide-fits {z = potentialAt (c .before .before .before .before .before .before .before .before .before .before .before .before .before .before .before .before .before .before .before .before .before .before .before .before .before .before .before .before .before .before .args .forward .now) (c .before .before .before .before .before .before .before .before .before .before .before .before .before .before .before .before .before .before .before .before .before .before .before .before .before .before .before .before .before .before .args .start)} (record { sfits = c .t33 .given })
+cast-t34 c =
+    let entry = c .before .before .before .before .before .before .before .before .before .before .before .before .before .before .before .before .before .before .before .before .before .before .before .before .before .before .before .before .before .before in
+    wide-fits {z = potentialAt (entry .args .forward .now) (entry .args .start)} (record { sfits = c .t33 .given })
 
 mul-t36 : tie.Need-mul-t36
 mul-t36 c = search needs
@@ -44,38 +46,58 @@ shared-slice-copy-out-t38 : tie.Need-shared-slice-copy-out-t38
 shared-slice-copy-out-t38 c = search needs
 
 cast-t39 : tie.Need-cast-t39
-cast-t39 c = wide-fits {z = potentialAt (c .before .before .before .before .before .before .before .before .before .before .before .before .before .before .before .before .before .before .before .before .before .before .before .before .before .before .before .before .before .before .before .args .backward .now) (c .before .before .before .before .before .before .before .before .before .before .before .before .before .before .before .before .before .before .before .before .before .before .before .before .before .before .before .before .before .before .before .args .end)} (record { sfits = c .t38 .given })
+cast-t39 c =
+    let entry = c .before .before .before .before .before .before .before .before .before .before .before .before .before .before .before .before .before .before .before .before .before .before .before .before .before .before .before .before .before .before .before in
+    wide-fits {z = potentialAt (entry .args .backward .now) (entry .args .end)} (record { sfits = c .t38 .given })
 
 same-length : tie.Need-same-length
-same-length c = c .before .before .before .before .before .before .before .before .before .before .before .before .before .before .before .before .before .before .before .before .before .before .before .before .begin-labels .kept .0
+same-length c =
+    let begin-labels = c .before .before .before .before .before .before .before .before .before .before .before .before .before .before .before .before .before .before .before .before .before .before .before .before .begin-labels in
+    begin-labels .kept .0
 
 same-length-2 : tie.Need-same-length-2
-same-length-2 c = c .before .before .before .before .before .before .before .before .before .before .before .before .before .before .before .before .before .before .before .before .begin-neighbours .kept .0
+same-length-2 c =
+    let begin-neighbours = c .before .before .before .before .before .before .before .before .before .before .before .before .before .before .before .before .before .before .before .before .begin-neighbours in
+    begin-neighbours .kept .0
 
 same-length-3 : tie.Need-same-length-3
-same-length-3 c = c .before .before .before .before .before .before .before .before .before .before .before .before .before .before .before .before .begin-labels2 .kept .0
+same-length-3 c =
+    let begin-labels2 = c .before .before .before .before .before .before .before .before .before .before .before .before .before .before .before .before .begin-labels2 in
+    begin-labels2 .kept .0
 
 same-length-4 : tie.Need-same-length-4
-same-length-4 c = c .before .before .before .before .before .before .before .before .before .before .before .before .begin-neighbours2 .kept .0
+same-length-4 c =
+    let begin-neighbours2 = c .before .before .before .before .before .before .before .before .before .before .before .before .begin-neighbours2 in
+    begin-neighbours2 .kept .0
 
 same-length-5 : tie.Need-same-length-5
-same-length-5 c = c .before .before .before .before .before .before .before .before .begin-states .kept .0
+same-length-5 c =
+    let begin-states = c .before .before .before .before .before .before .before .before .begin-states in
+    begin-states .kept .0
 
 returns : tie.Need-returns
 returns c =
-    let long = c .before .before .before .before .before .before .before .before .before .before .before .before .before .before .before .before .before .before .before .before .before .before .before .before .before .before .before .before .before .before .before .pre .0 in
+    let entry = c .before .before .before .before .before .before .before .before .before .before .before .before .before .before .before .before .before .before .before .before .before .before .before .before .before .before .before .before .before .before .before in
+    let begin-labels = c .before .before .before .before .before .before .before .before .before .before .before .before .before .before .before .before .before .before .before .before .before .before .before .before .begin-labels in
+    let begin-neighbours = c .before .before .before .before .before .before .before .before .before .before .before .before .before .before .before .before .before .before .before .before .begin-neighbours in
+    let begin-labels2 = c .before .before .before .before .before .before .before .before .before .before .before .before .before .before .before .before .begin-labels2 in
+    let begin-neighbours2 = c .before .before .before .before .before .before .before .before .before .before .before .before .begin-neighbours2 in
+    let begin-states = c .before .before .before .before .before .before .before .before .begin-states in
+    let next-candidates = c .before .before .next-candidates in
+    let t33 = c .before .t33 in
+    let long = entry .pre .0 in
     begun _ _ _ _ _ _
-    (c .before .before .before .before .before .before .before .before .before .before .before .before .before .before .before .before .before .before .before .before .before .before .before .before .begin-labels .ensures ∙ ap (λ n. set (replicate n missing) (c .before .before .before .before .before .before .before .before .before .before .before .before .before .before .before .before .before .before .before .before .before .before .before .before .before .before .before .before .before .before .before .args .start) 0) (long .labels-long))
-    (c .before .before .before .before .before .before .before .before .before .before .before .before .before .before .before .before .before .before .before .before .begin-neighbours .ensures ∙ ap (λ n. replicate n noNode) (long .neighbours-long))
-    (c .before .before .before .before .before .before .before .before .before .before .before .before .before .before .before .before .begin-labels2 .ensures ∙ ap (λ n. set (replicate n missing) (c .before .before .before .before .before .before .before .before .before .before .before .before .before .before .before .before .before .before .before .before .before .before .before .before .before .before .before .before .before .before .before .args .end) 0) (long .theirs-long))
-    (c .before .before .before .before .before .before .before .before .before .before .before .before .begin-neighbours2 .ensures ∙ ap (λ n. replicate n noNode) (long .beyond-long))
-    (c .before .before .before .before .before .before .before .before .begin-states .ensures)
+    (begin-labels .ensures ∙ ap (λ n. set (replicate n missing) (entry .args .start) 0) (long .labels-long))
+    (begin-neighbours .ensures ∙ ap (λ n. replicate n noNode) (long .neighbours-long))
+    (begin-labels2 .ensures ∙ ap (λ n. set (replicate n missing) (entry .args .end) 0) (long .theirs-long))
+    (begin-neighbours2 .ensures ∙ ap (λ n. replicate n noNode) (long .beyond-long))
+    (begin-states .ensures)
     refl
     refl
-    (wide-is {z = potentialAt (c .before .before .before .before .before .before .before .before .before .before .before .before .before .before .before .before .before .before .before .before .before .before .before .before .before .before .before .before .before .before .before .args .forward .now) (c .before .before .before .before .before .before .before .before .before .before .before .before .before .before .before .before .before .before .before .before .before .before .before .before .before .before .before .before .before .before .before .args .start)} (record { sfits = c .before .t33 .given }))
-    (wide-is {z = potentialAt (c .before .before .before .before .before .before .before .before .before .before .before .before .before .before .before .before .before .before .before .before .before .before .before .before .before .before .before .before .before .before .before .args .backward .now) (c .before .before .before .before .before .before .before .before .before .before .before .before .before .before .before .before .before .before .before .before .before .before .before .before .before .before .before .before .before .before .before .args .end)} (record { sfits = c .t38 .given }))
-    (c .before .before .next-candidates .ensures .0)
-    (c .before .before .next-candidates .ensures .1)
+    (wide-is {z = potentialAt (entry .args .forward .now) (entry .args .start)} (record { sfits = t33 .given }))
+    (wide-is {z = potentialAt (entry .args .backward .now) (entry .args .end)} (record { sfits = c .t38 .given }))
+    (next-candidates .ensures .0)
+    (next-candidates .ensures .1)
 
 pub begin-spec : {M : Type 1} → statement M
 begin-spec =

@@ -29,8 +29,9 @@ asked s n =
 
 begin-requires : tie.Need-begin-requires Inv-turns μ-turns
 begin-requires c κs =
-    let sound = c .before .before .before .before .before .before .before .before .before .before .before .before .before .before .pre .0 in (
-      c .before .before .before .before .before .before .before .before .before .before .before .before .before .before .pre .1,
+    let entry = c .before .before .before .before .before .before .before .before .before .before .before .before .before .before in
+    let sound = entry .pre .0 in (
+      entry .pre .1,
       record {
         few = sound .sized .few-nodes;
         forward-long = sound .sized .forward-long;
@@ -41,33 +42,48 @@ begin-requires c κs =
     )
 
 same-length : tie.Need-same-length Inv-turns μ-turns
-same-length c = c .before .before .before .before .before .before .before .before .before .before .before .begin .kept .1 .1 .1 .1 .0
+same-length c =
+    let begin = c .before .before .before .before .before .before .before .before .before .before .before .begin in
+    begin .kept .1 .1 .1 .1 .0
 
 same-length-2 : tie.Need-same-length-2 Inv-turns μ-turns
-same-length-2 c = c .before .before .before .before .before .before .before .before .before .before .before .begin .kept .1 .1 .1 .1 .1 .0
+same-length-2 c =
+    let begin = c .before .before .before .before .before .before .before .before .before .before .before .begin in
+    begin .kept .1 .1 .1 .1 .1 .0
 
 same-length-3 : tie.Need-same-length-3 Inv-turns μ-turns
-same-length-3 c = c .before .before .before .before .before .before .before .before .before .before .before .begin .kept .1 .1 .1 .1 .1 .1 .0
+same-length-3 c =
+    let begin = c .before .before .before .before .before .before .before .before .before .before .before .begin in
+    begin .kept .1 .1 .1 .1 .1 .1 .0
 
 same-length-4 : tie.Need-same-length-4 Inv-turns μ-turns
-same-length-4 c = c .before .before .before .before .before .before .before .before .before .before .before .begin .kept .1 .1 .1 .1 .1 .1 .1 .0
+same-length-4 c =
+    let begin = c .before .before .before .before .before .before .before .before .before .before .before .begin in
+    begin .kept .1 .1 .1 .1 .1 .1 .1 .0
 
 same-length-5 : tie.Need-same-length-5 Inv-turns μ-turns
-same-length-5 c = c .before .before .before .before .before .before .before .before .before .before .before .begin .kept .1 .1 .1 .1 .1 .1 .1 .1 .0
+same-length-5 c =
+    let begin = c .before .before .before .before .before .before .before .before .before .before .before .begin in
+    begin .kept .1 .1 .1 .1 .1 .1 .1 .1 .0
 
 returns : tie.Need-returns Inv-turns μ-turns
-returns c = ended-at-once (c .before .before .before .before .before .before .before .before .before .before .before .before .before .before .before .before .before .before .before .before .before .before .before .before .before .before .pre .0) (c .before .before .before .before .before .before .before .before .before .before .before .begin .ensures) refl (c .if1 .taken)
+returns c =
+    let entry = c .before .before .before .before .before .before .before .before .before .before .before .before .before .before .before .before .before .before .before .before .before .before .before .before .before .before in
+    let begin = c .before .before .before .before .before .before .before .before .before .before .before .begin in
+    ended-at-once (entry .pre .0) (begin .ensures) refl (c .if1 .taken)
 
 turns-holds : tie.Need-turns-holds Inv-turns μ-turns
 turns-holds c =
-    let k = c .before .before .before .before .before .before .before .before .before .before .before .begin .kept .1 .1 .1 .1 in (
+    let entry = c .before .before .before .before .before .before .before .before .before .before .before .before .before .before .before .before .before .before .before .before .before .before .before .before .before .before in
+    let begin = c .before .before .before .before .before .before .before .before .before .before .before .begin in
+    let k = begin .kept .1 .1 .1 .1 in (
       refl,
       rw (k .1 .1 .1 .1 .0)
           (record {
             few = omega arith;
-            sound = c .before .before .before .before .before .before .before .before .before .before .before .before .before .before .before .before .before .before .before .before .before .before .before .before .before .before .pre .0;
-            long = kept-long (c .before .before .before .before .before .before .before .before .before .before .before .before .before .before .before .before .before .before .before .before .before .before .before .before .before .before .pre .1) (k .0) (k .1 .0) (k .1 .1 .0) (k .1 .1 .1 .0) (k .1 .1 .1 .1 .0);
-            way = begun-underway (c .before .before .before .before .before .before .before .before .before .before .before .before .before .before .before .before .before .before .before .before .before .before .before .before .before .before .pre .0) (c .before .before .before .before .before .before .before .before .before .before .before .begin .ensures);
+            sound = entry .pre .0;
+            long = kept-long (entry .pre .1) (k .0) (k .1 .0) (k .1 .1 .0) (k .1 .1 .1 .0) (k .1 .1 .1 .1 .0);
+            way = begun-underway (entry .pre .0) (begin .ensures);
           }),
     )
 
@@ -85,58 +101,148 @@ enum-told-2 c = search needs
 
 next-turn-requires : tie.Need-next-turn-requires Inv-turns μ-turns
 next-turn-requires c κs =
-    let w = c .before .before .before .before .before .before .before .before .before .before .before .turns .inv .1 in
-    (w .sound, (w .long, both-take (w .sound) (w .way) (c .before .before .before .before .before .before .before .before .before .own .given .1) (c .before .before .before .before .before .before .other .given .1) refl refl))
+    let turns = c .before .before .before .before .before .before .before .before .before .before .before .turns in
+    let own = c .before .before .before .before .before .before .before .before .before .own in
+    let other = c .before .before .before .before .before .before .other in
+    let w = turns .inv .1 in
+    (w .sound, (w .long, both-take (w .sound) (w .way) (own .given .1) (other .given .1) refl refl))
 
 add-turns : tie.Need-add-turns Inv-turns μ-turns
-add-turns c = omega (arith, c .before .before .before .before .before .before .before .before .before .before .before .before .before .before .before .before .before .before .before .before .before .before .turns .inv .1 .sound .sized .few-nodes, turns-left (c .before .before .before .before .before .before .before .before .before .before .before .before .before .before .before .before .before .before .before .before .before .before .turns .inv .1 .sound) (c .before .before .before .before .before .before .before .before .before .before .before .before .before .before .before .before .before .before .before .before .before .before .turns .inv .1 .way) (c .before .before .before .before .before .before .before .before .before .before .before .before .before .before .before .before .before .before .before .before .own .given .1) (c .before .before .before .before .before .before .before .before .before .before .before .before .before .before .before .before .before .other .given .1))
+add-turns c =
+    let turns = c .before .before .before .before .before .before .before .before .before .before .before .before .before .before .before .before .before .before .before .before .before .before .turns in
+    let own = c .before .before .before .before .before .before .before .before .before .before .before .before .before .before .before .before .before .before .before .before .own in
+    let other = c .before .before .before .before .before .before .before .before .before .before .before .before .before .before .before .before .before .other in
+    omega (arith, turns .inv .1 .sound .sized .few-nodes, turns-left (turns .inv .1 .sound) (turns .inv .1 .way) (own .given .1) (other .given .1))
 
 turns-less : tie.Need-turns-less Inv-turns μ-turns
-turns-less c = omega (arith, c .before .before .before .before .before .before .before .before .before .before .before .before .before .before .before .before .before .before .before .before .before .before .turns .inv .0, turns-left (c .before .before .before .before .before .before .before .before .before .before .before .before .before .before .before .before .before .before .before .before .before .before .turns .inv .1 .sound) (c .before .before .before .before .before .before .before .before .before .before .before .before .before .before .before .before .before .before .before .before .before .before .turns .inv .1 .way) (c .before .before .before .before .before .before .before .before .before .before .before .before .before .before .before .before .before .before .before .before .own .given .1) (c .before .before .before .before .before .before .before .before .before .before .before .before .before .before .before .before .before .other .given .1))
+turns-less c =
+    let turns = c .before .before .before .before .before .before .before .before .before .before .before .before .before .before .before .before .before .before .before .before .before .before .turns in
+    let own = c .before .before .before .before .before .before .before .before .before .before .before .before .before .before .before .before .before .before .before .before .own in
+    let other = c .before .before .before .before .before .before .before .before .before .before .before .before .before .before .before .before .before .other in
+    omega (arith, turns .inv .0, turns-left (turns .inv .1 .sound) (turns .inv .1 .way) (own .given .1) (other .given .1))
 
 turns-again : tie.Need-turns-again Inv-turns μ-turns
 turns-again c =
-    let k = c .before .before .before .before .before .before .before .before .before .before .next-turn .kept .1 .1 .1 .1 .1 .1 .1 .1 in
+    let entry = c .before .before .before .before .before .before .before .before .before .before .before .before .before .before .before .before .before .before .before .before .before .before .before .before .before .before .before .before .before .before .before .before .before .before .before .before .before .before .before .before .before .before .before .before .before .before .before .before .before in
+    let turns = c .before .before .before .before .before .before .before .before .before .before .before .before .before .before .before .before .before .before .before .before .before .before .turns in
+    let own = c .before .before .before .before .before .before .before .before .before .before .before .before .before .before .before .before .before .before .before .before .own in
+    let other = c .before .before .before .before .before .before .before .before .before .before .before .before .before .before .before .before .before .other in
+    let next-turn = c .before .before .before .before .before .before .before .before .before .before .next-turn in
+    let left = next-turn .last .1 .1 .1 .1 .1 .1 .1 .1 in
+    let k = next-turn .kept .1 .1 .1 .1 .1 .1 .1 .1 in
     let e = k .1 .1 .1 .1 .0 in (
-      e ∙ c .before .before .before .before .before .before .before .before .before .before .before .before .before .before .before .before .before .before .before .before .before .before .turns .inv .0,
-      going-on {q = asked (c .before .before .before .before .before .before .before .before .before .before .before .before .before .before .before .before .before .before .before .before .before .before .before .before .before .before .before .before .before .before .before .before .before .before .before .before .before .before .before .before .before .before .before .before .before .before .before .before .before) (length (c .before .before .before .before .before .before .before .before .before .before .before .before .before .before .before .before .before .before .before .before .before .before .turns .states))} {i = c .before .before .before .before .before .before .before .before .before .before .before .before .before .before .before .before .before .before .before .before .before .before .turns .turns} {sl = c .before .before .before .before .before .before .before .before .before .before .before .before .before .before .before .before .before .before .before .before .before .before .turns .start-labels} {sn = c .before .before .before .before .before .before .before .before .before .before .before .before .before .before .before .before .before .before .before .before .before .before .turns .start-neighbours} {el = c .before .before .before .before .before .before .before .before .before .before .before .before .before .before .before .before .before .before .before .before .before .before .turns .end-labels} {en = c .before .before .before .before .before .before .before .before .before .before .before .before .before .before .before .before .before .before .before .before .before .before .turns .end-neighbours} {states = c .before .before .before .before .before .before .before .before .before .before .before .before .before .before .before .before .before .before .before .before .before .before .turns .states} {p = c .before .before .before .before .before .before .before .before .before .before .before .before .before .before .before .before .before .before .before .before .before .before .turns .p} (c .before .before .before .before .before .before .before .before .before .before .before .before .before .before .before .before .before .before .before .before .before .before .turns .inv .1) (asked (c .before .before .before .before .before .before .before .before .before .before .before .before .before .before .before .before .before .before .before .before .before .before .before .before .before .before .before .before .before .before .before .before .before .before .before .before .before .before .before .before .before .before .before .before .before .before .before .before .before) (length (c .before .before .before .before .before .before .before .before .before .before .next-turn .last .1 .1 .1 .1 .1 .1 .1 .1 .1 .1 .1 .1 .0))) (c .before .before .before .before .before .before .before .before .before .before .next-turn .last .1 .1 .1 .1 .1 .1 .1 .1 .0) (c .before .before .before .before .before .before .before .before .before .before .next-turn .last .1 .1 .1 .1 .1 .1 .1 .1 .1 .0) (c .before .before .before .before .before .before .before .before .before .before .next-turn .last .1 .1 .1 .1 .1 .1 .1 .1 .1 .1 .0) (c .before .before .before .before .before .before .before .before .before .before .next-turn .last .1 .1 .1 .1 .1 .1 .1 .1 .1 .1 .1 .0) (c .before .before .before .before .before .before .before .before .before .before .next-turn .last .1 .1 .1 .1 .1 .1 .1 .1 .1 .1 .1 .1 .0) (ap (asked (c .before .before .before .before .before .before .before .before .before .before .before .before .before .before .before .before .before .before .before .before .before .before .before .before .before .before .before .before .before .before .before .before .before .before .before .before .before .before .before .before .before .before .before .before .before .before .before .before .before)) (sym e)) (c .before .before .before .before .before .before .before .before .before .before .before .before .before .before .before .before .before .before .before .before .own .given .1) (c .before .before .before .before .before .before .before .before .before .before .before .before .before .before .before .before .before .other .given .1) (k .0) (k .1 .0) (k .1 .1 .0) (k .1 .1 .1 .0) e (c .before .before .before .before .before .before .before .before .before .before .next-turn .ensures .0) (c .before .before .before .before .before .before .before .before .before .before .next-turn .ensures .1),
+      e ∙ turns .inv .0,
+      going-on {q = asked entry (length (turns .states))} {i = turns .turns}
+          {sl = turns .start-labels} {sn = turns .start-neighbours} {el = turns .end-labels} {en = turns .end-neighbours}
+          {states = turns .states} {p = turns .p}
+          (turns .inv .1)
+          (asked entry (length (left .1 .1 .1 .1 .0)))
+          (left .0) (left .1 .0) (left .1 .1 .0) (left .1 .1 .1 .0) (left .1 .1 .1 .1 .0)
+          (ap (asked entry) (sym e)) (own .given .1) (other .given .1)
+          (k .0) (k .1 .0) (k .1 .1 .0) (k .1 .1 .1 .0) e
+          (next-turn .ensures .0) (next-turn .ensures .1),
+    )
+
+-- at the head of the turns each list is as long as it was lent
+as-lent : (c : tie.At-turns Inv-turns μ-turns) →
+    let entry = c .before .before .before .before .before .before .before .before .before .before .before .before .before .before .before .before .before .before .before .before .before .before .before .before .before .before .before in
+    (length (c .turns .start-labels) ≡ length (entry .args .start-labels .now))
+    × (length (c .turns .start-neighbours) ≡ length (entry .args .start-neighbours .now))
+    × (length (c .turns .end-labels) ≡ length (entry .args .end-labels .now))
+    × (length (c .turns .end-neighbours) ≡ length (entry .args .end-neighbours .now))
+    × (length (c .turns .states) ≡ length (entry .args .states .now))
+as-lent c =
+    let entry = c .before .before .before .before .before .before .before .before .before .before .before .before .before .before .before .before .before .before .before .before .before .before .before .before .before .before .before in
+    let begin = c .before .before .before .before .before .before .before .before .before .before .before .before .begin in
+    let states-long = c .turns .inv .0 ∙ begin .kept .1 .1 .1 .1 .1 .1 .1 .1 .0 in
+    let long = c .turns .inv .1 .long in
+    let lent = entry .pre .1 in (
+      long .labels-long ∙ states-long ∙ sym (lent .labels-long),
+      long .neighbours-long ∙ states-long ∙ sym (lent .neighbours-long),
+      long .theirs-long ∙ states-long ∙ sym (lent .theirs-long),
+      long .beyond-long ∙ states-long ∙ sym (lent .beyond-long),
+      states-long,
     )
 
 same-length-6 : tie.Need-same-length-6 Inv-turns μ-turns
-same-length-6 c = c .before .before .turns .inv .1 .long .labels-long ∙ c .before .before .turns .inv .0 ∙ c .before .before .before .before .before .before .before .before .before .before .before .before .before .before .begin .kept .1 .1 .1 .1 .1 .1 .1 .1 .0 ∙ sym (c .before .before .before .before .before .before .before .before .before .before .before .before .before .before .before .before .before .before .before .before .before .before .before .before .before .before .before .before .before .pre .1 .labels-long)
+same-length-6 c =
+    let at-turns = c .before .before in
+    as-lent at-turns .0
 
 same-length-7 : tie.Need-same-length-7 Inv-turns μ-turns
-same-length-7 c = c .before .before .turns .inv .1 .long .neighbours-long ∙ c .before .before .turns .inv .0 ∙ c .before .before .before .before .before .before .before .before .before .before .before .before .before .before .begin .kept .1 .1 .1 .1 .1 .1 .1 .1 .0 ∙ sym (c .before .before .before .before .before .before .before .before .before .before .before .before .before .before .before .before .before .before .before .before .before .before .before .before .before .before .before .before .before .pre .1 .neighbours-long)
+same-length-7 c =
+    let at-turns = c .before .before in
+    as-lent at-turns .1
 
 same-length-8 : tie.Need-same-length-8 Inv-turns μ-turns
-same-length-8 c = c .before .before .turns .inv .1 .long .theirs-long ∙ c .before .before .turns .inv .0 ∙ c .before .before .before .before .before .before .before .before .before .before .before .before .before .before .begin .kept .1 .1 .1 .1 .1 .1 .1 .1 .0 ∙ sym (c .before .before .before .before .before .before .before .before .before .before .before .before .before .before .before .before .before .before .before .before .before .before .before .before .before .before .before .before .before .pre .1 .theirs-long)
+same-length-8 c =
+    let at-turns = c .before .before in
+    as-lent at-turns .2
 
 same-length-9 : tie.Need-same-length-9 Inv-turns μ-turns
-same-length-9 c = c .before .before .turns .inv .1 .long .beyond-long ∙ c .before .before .turns .inv .0 ∙ c .before .before .before .before .before .before .before .before .before .before .before .before .before .before .begin .kept .1 .1 .1 .1 .1 .1 .1 .1 .0 ∙ sym (c .before .before .before .before .before .before .before .before .before .before .before .before .before .before .before .before .before .before .before .before .before .before .before .before .before .before .before .before .before .pre .1 .beyond-long)
+same-length-9 c =
+    let at-turns = c .before .before in
+    as-lent at-turns .3
 
 same-length-10 : tie.Need-same-length-10 Inv-turns μ-turns
-same-length-10 c = c .before .before .turns .inv .0 ∙ c .before .before .before .before .before .before .before .before .before .before .before .before .before .before .begin .kept .1 .1 .1 .1 .1 .1 .1 .1 .0
+same-length-10 c =
+    let at-turns = c .before .before in
+    as-lent at-turns .4
 
 returns-2 : tie.Need-returns-2 Inv-turns μ-turns
-returns-2 c = over-own {q = asked (c .before .before .before .before .before .before .before .before .before .before .before .before .before .before .before .before .before .before .before .before .before .before .before .before .before .before .before .before .before) (length (c .before .before .turns .states))} {i = c .before .before .turns .turns} {sl = c .before .before .turns .start-labels} {sn = c .before .before .turns .start-neighbours} {el = c .before .before .turns .end-labels} {en = c .before .before .turns .end-neighbours} {states = c .before .before .turns .states} {p = c .before .before .turns .p} (c .before .before .turns .inv .1) (asked (c .before .before .before .before .before .before .before .before .before .before .before .before .before .before .before .before .before .before .before .before .before .before .before .before .before .before .before .before .before) (length (c .before .before .before .before .before .before .before .before .before .before .before .before .before .before .before .before .before .before .before .before .before .before .before .before .before .before .before .before .before .args .states .now))) (ap (asked (c .before .before .before .before .before .before .before .before .before .before .before .before .before .before .before .before .before .before .before .before .before .before .before .before .before .before .before .before .before)) (c .before .before .turns .inv .0 ∙ c .before .before .before .before .before .before .before .before .before .before .before .before .before .before .begin .kept .1 .1 .1 .1 .1 .1 .1 .1 .0)) (c .before .before .before .if1 .left) (c .enum-told .given .1)
+returns-2 c =
+    let entry = c .before .before .before .before .before .before .before .before .before .before .before .before .before .before .before .before .before .before .before .before .before .before .before .before .before .before .before .before .before in
+    let if1 = c .before .before .before .if1 in
+    let turns = c .before .before .turns in
+    let at-turns = c .before .before in
+    over-own {q = asked entry (length (turns .states))} {i = turns .turns}
+    {sl = turns .start-labels} {sn = turns .start-neighbours} {el = turns .end-labels} {en = turns .end-neighbours}
+    {states = turns .states} {p = turns .p}
+    (turns .inv .1)
+    (asked entry (length (entry .args .states .now)))
+    (ap (asked entry) (as-lent at-turns .4))
+    (if1 .left)
+    (c .enum-told .given .1)
 
 same-length-11 : tie.Need-same-length-11 Inv-turns μ-turns
-same-length-11 c = c .before .before .before .before .before .turns .inv .1 .long .labels-long ∙ c .before .before .before .before .before .turns .inv .0 ∙ c .before .before .before .before .before .before .before .before .before .before .before .before .before .before .before .before .before .begin .kept .1 .1 .1 .1 .1 .1 .1 .1 .0 ∙ sym (c .before .before .before .before .before .before .before .before .before .before .before .before .before .before .before .before .before .before .before .before .before .before .before .before .before .before .before .before .before .before .before .before .pre .1 .labels-long)
+same-length-11 c =
+    let at-turns = c .before .before .before .before .before in
+    as-lent at-turns .0
 
 same-length-12 : tie.Need-same-length-12 Inv-turns μ-turns
-same-length-12 c = c .before .before .before .before .before .turns .inv .1 .long .neighbours-long ∙ c .before .before .before .before .before .turns .inv .0 ∙ c .before .before .before .before .before .before .before .before .before .before .before .before .before .before .before .before .before .begin .kept .1 .1 .1 .1 .1 .1 .1 .1 .0 ∙ sym (c .before .before .before .before .before .before .before .before .before .before .before .before .before .before .before .before .before .before .before .before .before .before .before .before .before .before .before .before .before .before .before .before .pre .1 .neighbours-long)
+same-length-12 c =
+    let at-turns = c .before .before .before .before .before in
+    as-lent at-turns .1
 
 same-length-13 : tie.Need-same-length-13 Inv-turns μ-turns
-same-length-13 c = c .before .before .before .before .before .turns .inv .1 .long .theirs-long ∙ c .before .before .before .before .before .turns .inv .0 ∙ c .before .before .before .before .before .before .before .before .before .before .before .before .before .before .before .before .before .begin .kept .1 .1 .1 .1 .1 .1 .1 .1 .0 ∙ sym (c .before .before .before .before .before .before .before .before .before .before .before .before .before .before .before .before .before .before .before .before .before .before .before .before .before .before .before .before .before .before .before .before .pre .1 .theirs-long)
+same-length-13 c =
+    let at-turns = c .before .before .before .before .before in
+    as-lent at-turns .2
 
 same-length-14 : tie.Need-same-length-14 Inv-turns μ-turns
-same-length-14 c = c .before .before .before .before .before .turns .inv .1 .long .beyond-long ∙ c .before .before .before .before .before .turns .inv .0 ∙ c .before .before .before .before .before .before .before .before .before .before .before .before .before .before .before .before .before .begin .kept .1 .1 .1 .1 .1 .1 .1 .1 .0 ∙ sym (c .before .before .before .before .before .before .before .before .before .before .before .before .before .before .before .before .before .before .before .before .before .before .before .before .before .before .before .before .before .before .before .before .pre .1 .beyond-long)
+same-length-14 c =
+    let at-turns = c .before .before .before .before .before in
+    as-lent at-turns .3
 
 same-length-15 : tie.Need-same-length-15 Inv-turns μ-turns
-same-length-15 c = c .before .before .before .before .before .turns .inv .0 ∙ c .before .before .before .before .before .before .before .before .before .before .before .before .before .before .before .before .before .begin .kept .1 .1 .1 .1 .1 .1 .1 .1 .0
+same-length-15 c =
+    let at-turns = c .before .before .before .before .before in
+    as-lent at-turns .4
 
 returns-3 : tie.Need-returns-3 Inv-turns μ-turns
-returns-3 c = over-other {q = asked (c .before .before .before .before .before .before .before .before .before .before .before .before .before .before .before .before .before .before .before .before .before .before .before .before .before .before .before .before .before .before .before .before) (length (c .before .before .before .before .before .turns .states))} {i = c .before .before .before .before .before .turns .turns} {sl = c .before .before .before .before .before .turns .start-labels} {sn = c .before .before .before .before .before .turns .start-neighbours} {el = c .before .before .before .before .before .turns .end-labels} {en = c .before .before .before .before .before .turns .end-neighbours} {states = c .before .before .before .before .before .turns .states} {p = c .before .before .before .before .before .turns .p} (c .before .before .before .before .before .turns .inv .1) (asked (c .before .before .before .before .before .before .before .before .before .before .before .before .before .before .before .before .before .before .before .before .before .before .before .before .before .before .before .before .before .before .before .before) (length (c .before .before .before .before .before .before .before .before .before .before .before .before .before .before .before .before .before .before .before .before .before .before .before .before .before .before .before .before .before .before .before .before .args .states .now))) (ap (asked (c .before .before .before .before .before .before .before .before .before .before .before .before .before .before .before .before .before .before .before .before .before .before .before .before .before .before .before .before .before .before .before .before)) (c .before .before .before .before .before .turns .inv .0 ∙ c .before .before .before .before .before .before .before .before .before .before .before .before .before .before .before .before .before .begin .kept .1 .1 .1 .1 .1 .1 .1 .1 .0)) (c .before .before .before .before .before .before .if1 .left) (c .enum-told2 .given .1)
+returns-3 c =
+    let entry = c .before .before .before .before .before .before .before .before .before .before .before .before .before .before .before .before .before .before .before .before .before .before .before .before .before .before .before .before .before .before .before .before in
+    let if1 = c .before .before .before .before .before .before .if1 in
+    let turns = c .before .before .before .before .before .turns in
+    let at-turns = c .before .before .before .before .before in
+    over-other {q = asked entry (length (turns .states))} {i = turns .turns}
+    {sl = turns .start-labels} {sn = turns .start-neighbours} {el = turns .end-labels} {en = turns .end-neighbours}
+    {states = turns .states} {p = turns .p}
+    (turns .inv .1)
+    (asked entry (length (entry .args .states .now)))
+    (ap (asked entry) (as-lent at-turns .4))
+    (if1 .left)
+    (c .enum-told2 .given .1)
 
 pub find-spec : {M : Type 1} → statement M
 find-spec =

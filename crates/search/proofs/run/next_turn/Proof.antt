@@ -14,15 +14,17 @@ rem-at : tie.Need-rem-at
 rem-at c = search needs
 
 shared-slice-read-if1 : tie.Need-shared-slice-read-if1
-shared-slice-read-if1 c = mod-lt _ (omega (arith, c .before .before .before .before .before .before .before .before .before .before .pre .0 .some-entries))
+shared-slice-read-if1 c =
+    let entry = c .before .before .before .before .before .before .before .before .before .before in
+    mod-lt _ (omega (arith, entry .pre .0 .some-entries))
 
 side-turn-requires : tie.Need-side-turn-requires
 side-turn-requires c κs =
-    let s = c .before .before .before .before .before .before .before .before .before .before .before .before .before .before .before in
-    let sound = s .pre .0 in
-    let long = s .pre .1 .0 in
-    let t = s .pre .1 .1 in (
-      side-openable sound long start (s .args .a) (taken-least sound start _ (t .start-takes) .inside),
+    let entry = c .before .before .before .before .before .before .before .before .before .before .before .before .before .before .before in
+    let sound = entry .pre .0 in
+    let long = entry .pre .1 .0 in
+    let t = entry .pre .1 .1 in (
+      side-openable sound long start (entry .args .a) (taken-least sound start _ (t .start-takes) .inside),
       (
         side-passed sound long start,
         (omega (arith, sound .source-in end, sound .sized .forward-long), t .floors .beyond, omega arith, t .floors .floor),
@@ -30,35 +32,44 @@ side-turn-requires c κs =
     )
 
 same-length : tie.Need-same-length
-same-length c = c .before .before .before .before .before .before .side-turn .kept .1 .1 .1 .1 .1 .0
+same-length c =
+    let side-turn = c .before .before .before .before .before .before .side-turn in
+    side-turn .kept .1 .1 .1 .1 .1 .0
 
 same-length-2 : tie.Need-same-length-2
-same-length-2 c = c .before .before .before .before .before .before .side-turn .kept .1 .1 .1 .1 .1 .1 .0
+same-length-2 c =
+    let side-turn = c .before .before .before .before .before .before .side-turn in
+    side-turn .kept .1 .1 .1 .1 .1 .1 .0
 
 same-length-3 : tie.Need-same-length-3
 same-length-3 c = refl
 
 same-length-4 : tie.Need-same-length-4
-same-length-4 c = c .before .before .before .before .before .before .side-turn .kept .1 .1 .1 .1 .1 .1 .1 .1 .0
+same-length-4 c =
+    let side-turn = c .before .before .before .before .before .before .side-turn in
+    side-turn .kept .1 .1 .1 .1 .1 .1 .1 .1 .0
 
 returns : tie.Need-returns
 returns c =
-    let s = c .before .before .before .before .before .before .before .before .before .before .before .before .before .before .before .before .before .before .before .before .before .before in
-    let t = s .pre .1 .1 in
-    let m = side-turn-is _ start _ _ _ _ _ _ _ _ _ _ _ _ (s .pre .0 .sized .heads-long) (c .before .before .before .before .before .before .side-turn .kept .1 .1 .1 .1 .1 .1 .1 .1 .0) (t .start-takes) (rw (s .pre .1 .0 .labels-long) at (c .before .before .before .before .before .before .side-turn .ensures .0)) (c .before .before .before .before .before .before .side-turn .ensures .1) in
-    (turn-named _ (start-named _ _ (c .before .before .before .before .before .before .before .before .before .before .before .if1 .taken)) m, m .known)
+    let entry = c .before .before .before .before .before .before .before .before .before .before .before .before .before .before .before .before .before .before .before .before .before .before in
+    let if1 = c .before .before .before .before .before .before .before .before .before .before .before .if1 in
+    let side-turn = c .before .before .before .before .before .before .side-turn in
+    let t = entry .pre .1 .1 in
+    let m = side-turn-is _ start _ _ _ _ _ _ _ _ _ _ _ _ (entry .pre .0 .sized .heads-long) (side-turn .kept .1 .1 .1 .1 .1 .1 .1 .1 .0) (t .start-takes) (rw (entry .pre .1 .0 .labels-long) at (side-turn .ensures .0)) (side-turn .ensures .1) in
+    (turn-named _ (start-named _ _ (if1 .taken)) m, m .known)
 
 swapped-requires : tie.Need-swapped-requires
 swapped-requires c κs = search needs
 
 side-turn-requires-2 : tie.Need-side-turn-requires-2
 side-turn-requires-2 c κs =
-    let s = c .before .before .before .before .before .before .before .before .before .before .before .before .before .before .before .before in
-    let sound = s .pre .0 in
-    let long = long-swapped (s .pre .1 .0) in
-    let t = s .pre .1 .1 in
-    rw (c .before .before .before .before .swapped .ensures) (
-      side-openable sound long end (s .args .b) (taken-least sound end _ (t .end-takes) .inside),
+    let entry = c .before .before .before .before .before .before .before .before .before .before .before .before .before .before .before .before in
+    let swapped = c .before .before .before .before .swapped in
+    let sound = entry .pre .0 in
+    let long = long-swapped (entry .pre .1 .0) in
+    let t = entry .pre .1 .1 in
+    rw (swapped .ensures) (
+      side-openable sound long end (entry .args .b) (taken-least sound end _ (t .end-takes) .inside),
       (
         side-passed sound long end,
         (omega (arith, sound .source-in start, sound .sized .backward-long), t .floors .floor, omega arith, t .floors .beyond),
@@ -72,21 +83,30 @@ same-length-5 : tie.Need-same-length-5
 same-length-5 c = refl
 
 same-length-6 : tie.Need-same-length-6
-same-length-6 c = c .before .before .before .before .before .before .before .side-turn2 .kept .1 .1 .1 .1 .1 .0
+same-length-6 c =
+    let side-turn2 = c .before .before .before .before .before .before .before .side-turn2 in
+    side-turn2 .kept .1 .1 .1 .1 .1 .0
 
 same-length-7 : tie.Need-same-length-7
-same-length-7 c = c .before .before .before .before .before .before .before .side-turn2 .kept .1 .1 .1 .1 .1 .1 .0
+same-length-7 c =
+    let side-turn2 = c .before .before .before .before .before .before .before .side-turn2 in
+    side-turn2 .kept .1 .1 .1 .1 .1 .1 .0
 
 same-length-8 : tie.Need-same-length-8
-same-length-8 c = c .before .before .before .before .before .before .before .side-turn2 .kept .1 .1 .1 .1 .1 .1 .1 .1 .0
+same-length-8 c =
+    let side-turn2 = c .before .before .before .before .before .before .before .side-turn2 in
+    side-turn2 .kept .1 .1 .1 .1 .1 .1 .1 .1 .0
 
 returns-2 : tie.Need-returns-2
 returns-2 c =
-    let s = c .before .before .before .before .before .before .before .before .before .before .before .before .before .before .before .before .before .before .before .before .before .before .before .before in
-    let t = s .pre .1 .1 in
-    let e = c .before .before .before .before .before .before .before .before .before .before .before .before .swapped .ensures in
-    let m = side-turn-is _ end _ _ _ _ _ _ _ _ (swappedOf (s .args .p)) _ _ _ (s .pre .0 .sized .heads-long) (c .before .before .before .before .before .before .before .side-turn2 .kept .1 .1 .1 .1 .1 .1 .1 .1 .0) (t .end-takes) (rw (e, s .pre .1 .0 .theirs-long) at (c .before .before .before .before .before .before .before .side-turn2 .ensures .0)) (rw e at (c .before .before .before .before .before .before .before .side-turn2 .ensures .1)) in
-    rw (c .swapped2 .ensures) (turn-named _ (end-named _ _ (c .before .before .before .before .before .before .before .before .before .before .before .before .before .if1 .left)) m, known-swapped (m .known))
+    let entry = c .before .before .before .before .before .before .before .before .before .before .before .before .before .before .before .before .before .before .before .before .before .before .before .before in
+    let if1 = c .before .before .before .before .before .before .before .before .before .before .before .before .before .if1 in
+    let swapped = c .before .before .before .before .before .before .before .before .before .before .before .before .swapped in
+    let side-turn2 = c .before .before .before .before .before .before .before .side-turn2 in
+    let t = entry .pre .1 .1 in
+    let e = swapped .ensures in
+    let m = side-turn-is _ end _ _ _ _ _ _ _ _ (swappedOf (entry .args .p)) _ _ _ (entry .pre .0 .sized .heads-long) (side-turn2 .kept .1 .1 .1 .1 .1 .1 .1 .1 .0) (t .end-takes) (rw (e, entry .pre .1 .0 .theirs-long) at (side-turn2 .ensures .0)) (rw e at (side-turn2 .ensures .1)) in
+    rw (c .swapped2 .ensures) (turn-named _ (end-named _ _ (if1 .left)) m, known-swapped (m .known))
 
 pub next-turn-spec : {M : Type 1} → statement M
 next-turn-spec =

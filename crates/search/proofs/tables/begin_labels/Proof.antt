@@ -35,9 +35,10 @@ loop-less c = search needs
 
 loop-again : tie.Need-loop-again Inv-loop μ-loop
 loop-again c =
-    let l = c .before in
-    let h : l .loop .i < length (l .before .args .labels .now) = omega arith in
-    (omega arith, simp length-set (l .loop .inv .1), rw (l .loop .inv .2) (fill-more (l .loop .i) missing (l .before .args .labels .now) h))
+    let entry = c .before .before in
+    let loop = c .before .loop in
+    let h : loop .i < length (entry .args .labels .now) = omega arith in
+    (omega arith, simp length-set (loop .inv .1), rw (loop .inv .2) (fill-more (loop .i) missing (entry .args .labels .now) h))
 
 mul-labels-2 : tie.Need-mul-labels-2 Inv-loop μ-loop
 mul-labels-2 c = search needs
@@ -50,8 +51,9 @@ same-length c = search needs
 
 returns : tie.Need-returns Inv-loop μ-loop
 returns c =
-    let l = c .before in
-    let all : l .loop .labels ≡ replicate (length (l .before .args .labels .now)) missing = l .loop .inv .2 ∙ filled-whole (l .loop .i) missing (l .before .args .labels .now) (omega arith) in
+    let entry = c .before .before in
+    let loop = c .before .loop in
+    let all : loop .labels ≡ replicate (length (entry .args .labels .now)) missing = loop .inv .2 ∙ filled-whole (loop .i) missing (entry .args .labels .now) (omega arith) in
     rw all
 
 pub begin-labels-spec : {M : Type 1} → statement M

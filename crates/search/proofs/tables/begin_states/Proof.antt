@@ -32,17 +32,19 @@ loop-less c = search needs
 
 loop-again : tie.Need-loop-again Inv-loop μ-loop
 loop-again c =
-    let l = c .before in
-    let h : l .loop .i < length (l .before .args .states .now) = omega arith in
-    (omega arith, simp length-set (l .loop .inv .1), rw (l .loop .inv .2) (fill-more (l .loop .i) undecided (l .before .args .states .now) h))
+    let entry = c .before .before in
+    let loop = c .before .loop in
+    let h : loop .i < length (entry .args .states .now) = omega arith in
+    (omega arith, simp length-set (loop .inv .1), rw (loop .inv .2) (fill-more (loop .i) undecided (entry .args .states .now) h))
 
 same-length : tie.Need-same-length Inv-loop μ-loop
 same-length c = search needs
 
 returns : tie.Need-returns Inv-loop μ-loop
 returns c =
-    let l = c .before in
-    l .loop .inv .2 ∙ filled-whole (l .loop .i) undecided (l .before .args .states .now) (omega arith)
+    let entry = c .before .before in
+    let loop = c .before .loop in
+    loop .inv .2 ∙ filled-whole (loop .i) undecided (entry .args .states .now) (omega arith)
 
 pub begin-states-spec : {M : Type 1} → statement M
 begin-states-spec =

@@ -27,7 +27,10 @@ shared-slice-read-counted : tie.Need-shared-slice-read-counted Inv-loop μ-loop
 shared-slice-read-counted c = search needs
 
 counted-requires : tie.Need-counted-requires Inv-loop μ-loop
-counted-requires c κs = part-countable _ _ (c .before .before .before .before .args .states .now) (omega arith) (c .before .before .loop .inv .1)
+counted-requires c κs =
+    let entry = c .before .before .before .before in
+    let loop = c .before .before .loop in
+    part-countable _ _ (entry .args .states .now) (omega arith) (loop .inv .1)
 
 add-i : tie.Need-add-i Inv-loop μ-loop
 add-i c = search needs
@@ -37,16 +40,20 @@ loop-less c = search needs
 
 loop-again : tie.Need-loop-again Inv-loop μ-loop
 loop-again c =
-    let l = c .before .before .before in
-    (omega arith, count-next (l .loop .figures) (c .counted .result) (l .before .before .args .states .now) (l .loop .i) (omega arith) (c .counted .ensures) ∙ l .loop .inv .1)
+    let entry = c .before .before .before .before .before in
+    let loop = c .before .before .before .loop in (
+      omega arith,
+      count-next (loop .figures) (c .counted .result) (entry .args .states .now) (loop .i) (omega arith) (c .counted .ensures) ∙ loop .inv .1,
+    )
 
 returns : tie.Need-returns Inv-loop μ-loop
 returns c =
-    let l = c .before in
-    let states = l .before .before .args .states .now in
-    let past : length states ≤ l .loop .i = omega arith in
-    let none : drop (l .loop .i) states ≡ [] = drop-of-length-le states past in
-    sym (together-none (l .loop .figures)) ∙ (rw none at (l .loop .inv .1))
+    let entry = c .before .before .before in
+    let loop = c .before .loop in
+    let states = entry .args .states .now in
+    let past : length states ≤ loop .i = omega arith in
+    let none : drop (loop .i) states ≡ [] = drop-of-length-le states past in
+    sym (together-none (loop .figures)) ∙ (rw none at (loop .inv .1))
 
 pub count-states-spec : {M : Type 1} → statement M
 count-states-spec =

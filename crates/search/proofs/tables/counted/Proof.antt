@@ -40,8 +40,12 @@ add-t17 c = search needs
 returns : tie.Need-returns
 unfolding together figuresIn countOf
 returns c =
-    let b = c .before .before in
-    rw (c .before .one-if5 .ensures .0, b .one-if4 .ensures .0, b .before .before .one-if3 .ensures .0, b .before .before .before .before .one-if2 .ensures .0, b .before .before .before .before .before .before .one-if .ensures .0)
+    let one-if = c .before .before .before .before .before .before .before .before .one-if in
+    let one-if2 = c .before .before .before .before .before .before .one-if2 in
+    let one-if3 = c .before .before .before .before .one-if3 in
+    let one-if4 = c .before .before .one-if4 in
+    let one-if5 = c .before .one-if5 in
+    rw (one-if5 .ensures .0, one-if4 .ensures .0, one-if3 .ensures .0, one-if2 .ensures .0, one-if .ensures .0)
 
 pub counted-spec : {M : Type 1} → statement M
 counted-spec =

@@ -28,19 +28,22 @@ loop-holds c = (omega arith, simp (zero-add, sub-zero), simp sub-zero (c .pre))
 
 returns : tie.Need-returns Inv-loop μ-loop
 returns c =
-    let l = c .before .before in
-    omega (arith, rw (trail-at-source _ _ _ _ (c .if1 .taken)) at (l .loop .inv .1))
+    omega (arith, rw (trail-at-source _ _ _ _ (c .if1 .taken)) at (c .before .before .loop .inv .1))
 
 cast-v : tie.Need-cast-v Inv-loop μ-loop
 cast-v c = omega (arith, first-below (c .before .before .loop .inv .2))
 
 mul-v : tie.Need-mul-v Inv-loop μ-loop
 mul-v c =
-    let h : c .before .before .loop .v < length (c .before .before .before .args .neighbours .now) = first-below (c .before .before .loop .inv .2) in
+    let entry = c .before .before .before in
+    let loop = c .before .before .loop in
+    let h : loop .v < length (entry .args .neighbours .now) = first-below (loop .inv .2) in
     search needs
 
 shared-slice-read-v : tie.Need-shared-slice-read-v Inv-loop μ-loop
-shared-slice-read-v c = first-below (c .before .before .before .loop .inv .2)
+shared-slice-read-v c =
+    let loop = c .before .before .before .loop in
+    first-below (loop .inv .2)
 
 add-count : tie.Need-add-count Inv-loop μ-loop
 add-count c = search needs
@@ -50,17 +53,20 @@ loop-less c = search needs
 
 loop-again : tie.Need-loop-again Inv-loop μ-loop
 loop-again c =
-    let l = c .before .before .before in
-    let ns = l .before .args .neighbours .now in
-    let next = trail-next ns (l .loop .v) (length ns - l .loop .count) (length ns - (l .loop .count + 1)) (first-below (l .loop .inv .2)) (omega arith) (l .before .args .home) (c .before .if1 .left) in
-    (omega arith, omega (arith, rw next at (l .loop .inv .1)), others-below (rw next at (l .loop .inv .2)))
+    let entry = c .before .before .before .before in
+    let loop = c .before .before .before .loop in
+    let if1 = c .before .if1 in
+    let ns = entry .args .neighbours .now in
+    let next = trail-next ns (loop .v) (length ns - loop .count) (length ns - (loop .count + 1)) (first-below (loop .inv .2)) (omega arith) (entry .args .home) (if1 .left) in
+    (omega arith, omega (arith, rw next at (loop .inv .1)), others-below (rw next at (loop .inv .2)))
 
 returns-2 : tie.Need-returns-2 Inv-loop μ-loop
 unfolding trail
 returns-2 c =
-    let l = c .before in
-    let none : length (l .before .args .neighbours .now) - l .loop .count ≡ 0 = omega arith in
-    omega (arith, rw none at (l .loop .inv .1))
+    let entry = c .before .before in
+    let loop = c .before .loop in
+    let none : length (entry .args .neighbours .now) - loop .count ≡ 0 = omega arith in
+    omega (arith, rw none at (loop .inv .1))
 
 pub trail-length-spec : {M : Type 1} → statement M
 trail-length-spec =

@@ -29,7 +29,9 @@ cast-v c = omega (arith, first-below (c .before .loop .inv .2))
 
 mul-v : tie.Need-mul-v Inv-loop μ-loop
 mul-v c =
-    let h : c .before .loop .v < length (c .before .before .args .neighbours .now) = first-below (c .before .loop .inv .2) in
+    let entry = c .before .before in
+    let loop = c .before .loop in
+    let h : loop .v < length (entry .args .neighbours .now) = first-below (loop .inv .2) in
     search needs
 
 shared-slice-read-v : tie.Need-shared-slice-read-v Inv-loop μ-loop
@@ -49,15 +51,16 @@ loop-less c = search needs
 
 loop-again : tie.Need-loop-again Inv-loop μ-loop
 loop-again c =
-    let l = c .before .before in
-    let ns = l .before .args .neighbours .now in
-    let h = first-below (l .loop .inv .2) in
-    let less : l .loop .at ≡ suc (l .loop .at - 1) = omega arith in
-    let next = onward-next ns (l .loop .v) (l .loop .at) (l .loop .at - 1) h less in (
+    let entry = c .before .before .before in
+    let loop = c .before .before .loop in
+    let ns = entry .args .neighbours .now in
+    let h = first-below (loop .inv .2) in
+    let less : loop .at ≡ suc (loop .at - 1) = omega arith in
+    let next = onward-next ns (loop .v) (loop .at) (loop .at - 1) h less in (
       simp length-set (omega arith),
-      simp length-set (l .loop .inv .1),
-      others-below (rw next at (l .loop .inv .2)),
-      back-next ns (l .loop .v) (l .loop .at) (l .loop .at - 1) h less (l .loop .path) (omega arith) ∙ l .loop .inv .3,
+      simp length-set (loop .inv .1),
+      others-below (rw next at (loop .inv .2)),
+      back-next ns (loop .v) (loop .at) (loop .at - 1) h less (loop .path) (omega arith) ∙ loop .inv .3,
     )
 
 same-length : tie.Need-same-length Inv-loop μ-loop
@@ -66,9 +69,9 @@ same-length c = search needs
 returns : tie.Need-returns Inv-loop μ-loop
 unfolding turnedBefore onward
 returns c =
-    let l = c .before in
-    let none : l .loop .at ≡ 0 = omega arith in
-    rw none at (l .loop .inv .3)
+    let loop = c .before .loop in
+    let none : loop .at ≡ 0 = omega arith in
+    rw none at (loop .inv .3)
 
 pub write-back-spec : {M : Type 1} → statement M
 write-back-spec =

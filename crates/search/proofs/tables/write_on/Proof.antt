@@ -30,7 +30,9 @@ cast-v c = omega (arith, first-below (c .before .loop .inv .2))
 
 mul-v : tie.Need-mul-v Inv-loop μ-loop
 mul-v c =
-    let h : c .before .loop .v < length (c .before .before .args .neighbours .now) = first-below (c .before .loop .inv .2) in
+    let entry = c .before .before in
+    let loop = c .before .loop in
+    let h : loop .v < length (entry .args .neighbours .now) = first-below (loop .inv .2) in
     search needs
 
 shared-slice-read-v : tie.Need-shared-slice-read-v Inv-loop μ-loop
@@ -53,17 +55,18 @@ loop-less c = search needs
 
 loop-again : tie.Need-loop-again Inv-loop μ-loop
 loop-again c =
-    let l = c .before .before in
-    let a = l .before .args in
+    let entry = c .before .before .before in
+    let loop = c .before .before .loop in
+    let a = entry .args in
     let ns = a .neighbours .now in
-    let h = first-below (l .loop .inv .2) in
-    let less : a .count - l .loop .i ≡ suc (a .count - (l .loop .i + 1)) = omega arith in
-    let next = onward-next ns (l .loop .v) (a .count - l .loop .i) (a .count - (l .loop .i + 1)) h less in
-    let place : a .at + (l .loop .i + 1) ≡ a .at + l .loop .i + 1 = omega arith in (
+    let h = first-below (loop .inv .2) in
+    let less : a .count - loop .i ≡ suc (a .count - (loop .i + 1)) = omega arith in
+    let next = onward-next ns (loop .v) (a .count - loop .i) (a .count - (loop .i + 1)) h less in
+    let place : a .at + (loop .i + 1) ≡ a .at + loop .i + 1 = omega arith in (
       omega arith,
-      simp length-set (l .loop .inv .1),
-      others-below (rw next at (l .loop .inv .2)),
-      rw place (on-next ns (l .loop .v) (a .count - l .loop .i) (a .count - (l .loop .i + 1)) h less (l .loop .path) (a .at + l .loop .i) ∙ l .loop .inv .3),
+      simp length-set (loop .inv .1),
+      others-below (rw next at (loop .inv .2)),
+      rw place (on-next ns (loop .v) (a .count - loop .i) (a .count - (loop .i + 1)) h less (loop .path) (a .at + loop .i) ∙ loop .inv .3),
     )
 
 same-length : tie.Need-same-length Inv-loop μ-loop
@@ -72,9 +75,10 @@ same-length c = search needs
 returns : tie.Need-returns Inv-loop μ-loop
 unfolding onward
 returns c =
-    let l = c .before in
-    let none : l .before .args .count - l .loop .i ≡ 0 = omega arith in
-    rw none at (l .loop .inv .3)
+    let entry = c .before .before in
+    let loop = c .before .loop in
+    let none : entry .args .count - loop .i ≡ 0 = omega arith in
+    rw none at (loop .inv .3)
 
 pub write-on-spec : {M : Type 1} → statement M
 write-on-spec =

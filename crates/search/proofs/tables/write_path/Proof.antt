@@ -9,58 +9,91 @@ use Rattle.search.proofs.tables.write_path.Statement.{statement}
 use Rattle.search.proofs.tables.write_path.Tie as tie
 
 trail-length-requires : tie.Need-trail-length-requires
-trail-length-requires c κs = start-trail-below (c .before .before .before .pre)
+trail-length-requires c κs =
+    let entry = c .before .before .before in
+    start-trail-below (entry .pre)
 
 trail-length-requires-2 : tie.Need-trail-length-requires-2
-trail-length-requires-2 c κs = end-trail-below (c .before .before .before .before .pre)
+trail-length-requires-2 c κs =
+    let entry = c .before .before .before .before in
+    end-trail-below (entry .pre)
 
 -- the path has at most 2,048 nodes, and the list has room for it
 few : (c : tie.After-trail-length2) → c .before .trail-length .result + 1 + c .trail-length2 .result ≤ mostNodes
-few c = path-few (c .before .before .before .before .before .pre) _ _ (c .before .trail-length .ensures) (c .trail-length2 .ensures)
+few c =
+    let entry = c .before .before .before .before .before in
+    let trail-length = c .before .trail-length in
+    path-few (entry .pre) _ _ (trail-length .ensures) (c .trail-length2 .ensures)
 
-room : (c : tie.After-trail-length2) → c .before .trail-length .result + 1 + c .trail-length2 .result ≤ length (c .before .before .before .before .before .args .path .now)
-room c = path-within (c .before .before .before .before .before .pre) _ _ (c .before .trail-length .ensures) (c .trail-length2 .ensures)
+room : (c : tie.After-trail-length2) →
+    let entry = c .before .before .before .before .before in
+    let trail-length = c .before .trail-length in
+    trail-length .result + 1 + c .trail-length2 .result ≤ length (entry .args .path .now)
+room c =
+    let entry = c .before .before .before .before .before in
+    let trail-length = c .before .trail-length in
+    path-within (entry .pre) _ _ (trail-length .ensures) (c .trail-length2 .ensures)
 
 write-back-requires : tie.Need-write-back-requires
 write-back-requires c κs =
-    let asked = c .before .before .before .before .before .before .pre in
-    (rw (trail-is _ _ _ _ (c .before .before .trail-length .ensures)) at (start-trail-below asked), omega (arith, room (c .before)))
+    let entry = c .before .before .before .before .before .before in
+    let trail-length = c .before .before .trail-length in
+    let at-trail-length2 = c .before in
+    let asked = entry .pre in
+    (rw (trail-is _ _ _ _ (trail-length .ensures)) at (start-trail-below asked), omega (arith, room at-trail-length2))
 
 mul-path : tie.Need-mul-path
-mul-path c = omega (arith, few (c .before .before .before .before))
+mul-path c =
+    let at-trail-length2 = c .before .before .before .before in
+    omega (arith, few at-trail-length2)
 
 slice-write-path : tie.Need-slice-write-path
-slice-write-path c = omega (arith, room (c .before .before .before .before))
+slice-write-path c =
+    let at-trail-length2 = c .before .before .before .before in
+    omega (arith, room at-trail-length2)
 
 add-next : tie.Need-add-next
-add-next c = omega (arith, few (c .before .before .before .before))
+add-next c =
+    let at-trail-length2 = c .before .before .before .before in
+    omega (arith, few at-trail-length2)
 
 write-on-requires : tie.Need-write-on-requires
 write-on-requires c κs =
-    let t = c .before .before .before .before .before in
-    let asked = t .before .before .before .before .before .pre in
-    (rw (trail-is _ _ _ _ (t .trail-length2 .ensures)) at (end-trail-below asked), simp length-set (omega (arith, room t)))
+    let entry = c .before .before .before .before .before .before .before .before .before .before in
+    let trail-length2 = c .before .before .before .before .before .trail-length2 in
+    let at-trail-length2 = c .before .before .before .before .before in
+    let asked = entry .pre in
+    (rw (trail-is _ _ _ _ (trail-length2 .ensures)) at (end-trail-below asked), simp length-set (omega (arith, room at-trail-length2)))
 
 add-result : tie.Need-add-result
-add-result c = omega (arith, few (c .before .before .before .before .before .before .before .before))
+add-result c =
+    let at-trail-length2 = c .before .before .before .before .before .before .before .before in
+    omega (arith, few at-trail-length2)
 
 cast-result : tie.Need-cast-result
-cast-result c = omega (arith, few (c .before .before .before .before .before .before .before .before))
+cast-result c =
+    let at-trail-length2 = c .before .before .before .before .before .before .before .before in
+    omega (arith, few at-trail-length2)
 
 same-length : tie.Need-same-length
 same-length c =
-    let w = c .before .before .before .before .before .before in
-    let t = w .before .before in
-    omega (arith, length-set (w .write-back .last .0) (t .before .trail-length .result) (t .before .before .before .before .before .args .meeting))
+    let entry = c .before .before .before .before .before .before .before .before .before .before .before .before .before in
+    let trail-length = c .before .before .before .before .before .before .before .before .before .trail-length in
+    let write-back = c .before .before .before .before .before .before .write-back in
+    omega (arith, length-set (write-back .last .0) (trail-length .result) (entry .args .meeting))
 
 returns : tie.Need-returns
 returns c =
-    let t = c .before .before .before .before .before .before .before .before in
-    let asked = t .before .before .before .before .before .pre in
-    let b = t .before .trail-length .ensures in
-    let a = t .trail-length2 .ensures in (
+    let entry = c .before .before .before .before .before .before .before .before .before .before .before .before .before in
+    let trail-length = c .before .before .before .before .before .before .before .before .before .trail-length in
+    let trail-length2 = c .before .before .before .before .before .before .before .before .trail-length2 in
+    let write-back = c .before .before .before .before .before .before .write-back in
+    let write-on = c .before .before .write-on in
+    let asked = entry .pre in
+    let b = trail-length .ensures in
+    let a = trail-length2 .ensures in (
       path-length asked _ _ b a,
-      path-written asked _ _ b a (c .before .before .before .before .before .before .write-back .last .0) (c .before .before .write-on .last .0) (c .before .before .before .before .before .before .write-back .ensures) (c .before .before .write-on .ensures),
+      path-written asked _ _ b a (write-back .last .0) (write-on .last .0) (write-back .ensures) (write-on .ensures),
     )
 
 pub write-path-spec : {M : Type 1} → statement M
