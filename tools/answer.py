@@ -116,7 +116,8 @@ class Answer:
             if other := re.search(rf"\blet ({WORD}) = {re.escape(name)} in\s+", text):  # nor a fact a second name
                 text = renamed(text[: other.start()] + text[other.end() :], other.group(1), name)
         text = "\n".join(laid(line) for line in text.split("\n"))
-        facts = sorted(self.named.items(), key=lambda named: -named[0][0])
+        words = set(re.findall(rf"(?<!{EDGE}){WORD}(?!{EDGE})", text))
+        facts = sorted(((fact, name) for fact, name in self.named.items() if name in words), key=lambda named: -named[0][0])
         top = "".join(f"\n    let {name} = {places.path(*fact)} in" for fact, name in facts)
         stays = not top or text.startswith(" (\n")  # as `rt fmt` lays out a list after `in`
         return top + (text if stays else "\n    " + text.lstrip())

@@ -8,7 +8,9 @@ use Rattle.district.proofs.end_of_input.Statement.{statement}
 use Rattle.district.proofs.end_of_input.Tie as tie
 
 returns : tie.Need-returns
-returns c = record { law = λ l k. rw (← end-of-ended (c .before .before .before .args .reader) l (not-true _ (c .if1 .taken))) (nothing-placed _) }
+returns c =
+    let entry = c .before .before .before in
+    record { law = λ l k. rw (← end-of-ended (entry .args .reader) l (not-true _ (c .if1 .taken))) (nothing-placed _) }
 
 refuse-broken-requires : tie.Need-refuse-broken-requires
 refuse-broken-requires c κs = search needs
@@ -17,7 +19,11 @@ same-length : tie.Need-same-length
 same-length c = search needs
 
 returns-2 : tie.Need-returns-2
-returns-2 c = record { law = λ l k. rw (← end-in-line _ l k (not-false _ (c .before .before .before .before .before .before .if1 .left)) (c .before .before .before .before .if2 .taken)) (c .before .before .refuse-broken .ensures .law l k .room-is) }
+returns-2 c =
+    let if1 = c .before .before .before .before .before .before .if1 in
+    let if2 = c .before .before .before .before .if2 in
+    let refuse-broken = c .before .before .refuse-broken in
+    record { law = λ l k. rw (← end-in-line _ l k (not-false _ (if1 .left)) (if2 .taken)) (refuse-broken .ensures .law l k .room-is) }
 
 owes-requires : tie.Need-owes-requires
 owes-requires c κs = search needs
@@ -29,10 +35,20 @@ same-length-2 : tie.Need-same-length-2
 same-length-2 c = search needs
 
 returns-3 : tie.Need-returns-3
-returns-3 c = record { law = λ l k. rw (← end-owing _ l k (not-false _ (c .before .before .before .before .before .before .before .before .if1 .left)) (c .before .before .before .before .before .before .if2 .left) (sym (c .before .before .before .before .before .owes .ensures) ∙ c .before .before .before .before .if3 .taken)) (c .before .before .refuse .ensures .law l k .room-is) }
+returns-3 c =
+    let if1 = c .before .before .before .before .before .before .before .before .if1 in
+    let if2 = c .before .before .before .before .before .before .if2 in
+    let owes = c .before .before .before .before .before .owes in
+    let if3 = c .before .before .before .before .if3 in
+    let refuse = c .before .before .refuse in
+    record { law = λ l k. rw (← end-owing _ l k (not-false _ (if1 .left)) (if2 .left) (sym (owes .ensures) ∙ if3 .taken)) (refuse .ensures .law l k .room-is) }
 
 returns-4 : tie.Need-returns-4
-returns-4 c = record { law = λ l k. rw (← end-of-whole _ l k (not-false _ (c .before .before .before .before .if1 .left)) (c .before .before .if2 .left) (sym (c .before .owes .ensures) ∙ c .if3 .left)) (nothing-placed _) }
+returns-4 c =
+    let if1 = c .before .before .before .before .if1 in
+    let if2 = c .before .before .if2 in
+    let owes = c .before .owes in
+    record { law = λ l k. rw (← end-of-whole _ l k (not-false _ (if1 .left)) (if2 .left) (sym (owes .ensures) ∙ c .if3 .left)) (nothing-placed _) }
 
 pub end-of-input-spec : {M : Type 1} → statement M
 end-of-input-spec =

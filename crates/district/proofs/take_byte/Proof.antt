@@ -9,7 +9,9 @@ use Rattle.district.proofs.take_byte.Statement.{statement}
 use Rattle.district.proofs.take_byte.Tie as tie
 
 returns : tie.Need-returns
-returns c = stepped-as (ended-byte _ _ _ (not-true _ (c .if1 .taken))) (stepped-nothing _ _ _ (c .before .before .before .before .before .before .before .pre))
+returns c =
+    let entry = c .before .before .before .before .before .before .before in
+    stepped-as (ended-byte _ _ _ (not-true _ (c .if1 .taken))) (stepped-nothing _ _ _ (entry .pre))
 
 take-line-requires : tie.Need-take-line-requires
 take-line-requires c κs = search needs
@@ -36,7 +38,11 @@ same-length-7 : tie.Need-same-length-7
 same-length-7 c = search needs
 
 returns-2 : tie.Need-returns-2
-returns-2 c = stepped-as (line-feed-byte _ _ _ (not-false _ (c .before .before .before .before .before .before .before .before .before .before .before .before .before .before .before .before .before .before .before .if1 .left)) (c .before .before .before .before .before .before .before .before .before .before .before .before .before .before .before .before .before .before .if2 .taken)) (c .before .before .before .before .before .before .before .before .before .before .take-line .ensures)
+returns-2 c =
+    let if1 = c .before .before .before .before .before .before .before .before .before .before .before .before .before .before .before .before .before .before .before .if1 in
+    let if2 = c .before .before .before .before .before .before .before .before .before .before .before .before .before .before .before .before .before .before .if2 in
+    let take-line = c .before .before .before .before .before .before .before .before .before .before .take-line in
+    stepped-as (line-feed-byte _ _ _ (not-false _ (if1 .left)) (if2 .taken)) (take-line .ensures)
 
 slice-write-line : tie.Need-slice-write-line
 slice-write-line c = search needs
@@ -49,9 +55,12 @@ same-length-8 c = search needs
 
 returns-3 : tie.Need-returns-3
 returns-3 c =
-    let a = c .before .before .before .before .before .before .before .before .before .args in
-    stepped-as (held-byte _ _ (a .byte) (c .before .before .before .before .before .before .before .before .before .pre) (not-false _ (c .before .before .if1 .left)) (c .before .if2 .left) (c .if3 .taken))
-    (byte-held (a .reader) (a .byte) (a .line .now) _ _ _ _ _ _ _ (c .before .before .before .before .before .before .before .before .before .pre) (c .if3 .taken) (grown-one (a .line .now) _ (a .byte) refl (omega (arith, c .before .before .before .before .before .before .before .before .before .pre .roomy))))
+    let entry = c .before .before .before .before .before .before .before .before .before in
+    let if1 = c .before .before .if1 in
+    let if2 = c .before .if2 in
+    let a = entry .args in
+    stepped-as (held-byte _ _ (a .byte) (entry .pre) (not-false _ (if1 .left)) (if2 .left) (c .if3 .taken))
+    (byte-held (a .reader) (a .byte) (a .line .now) _ _ _ _ _ _ _ (entry .pre) (c .if3 .taken) (grown-one (a .line .now) _ (a .byte) refl (omega (arith, entry .pre .roomy))))
 
 refuse-broken-requires : tie.Need-refuse-broken-requires
 refuse-broken-requires c κs = search needs
@@ -60,7 +69,13 @@ same-length-9 : tie.Need-same-length-9
 same-length-9 c = search needs
 
 returns-4 : tie.Need-returns-4
-returns-4 c = stepped-as (byte-too-many _ _ _ (c .before .before .before .before .before .before .before .before .before .before .before .before .before .pre) (not-false _ (c .before .before .before .before .before .before .if1 .left)) (c .before .before .before .before .before .if2 .left) (c .before .before .before .before .if3 .left)) (c .before .before .refuse-broken .ensures .law _ (c .before .before .before .before .before .before .before .before .before .before .before .before .before .pre))
+returns-4 c =
+    let entry = c .before .before .before .before .before .before .before .before .before .before .before .before .before in
+    let if1 = c .before .before .before .before .before .before .if1 in
+    let if2 = c .before .before .before .before .before .if2 in
+    let if3 = c .before .before .before .before .if3 in
+    let refuse-broken = c .before .before .refuse-broken in
+    stepped-as (byte-too-many _ _ _ (entry .pre) (not-false _ (if1 .left)) (if2 .left) (if3 .left)) (refuse-broken .ensures .law _ (entry .pre))
 
 pub take-byte-spec : {M : Type 1} → statement M
 take-byte-spec =

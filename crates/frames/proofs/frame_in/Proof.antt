@@ -31,19 +31,29 @@ number-requires : tie.Need-number-requires
 number-requires c κs = (readable c, omega arith, omega arith)
 
 size-frame-requires : tie.Need-size-frame-requires
-size-frame-requires c κs = readable (c .before .before)
+size-frame-requires c κs =
+    let at-if1 = c .before .before in
+    readable at-if1
 
 arc-frame-requires : tie.Need-arc-frame-requires
-arc-frame-requires c κs = readable (c .before .before)
+arc-frame-requires c κs =
+    let at-if1 = c .before .before in
+    readable at-if1
 
 potentials-frame-requires : tie.Need-potentials-frame-requires
-potentials-frame-requires c κs = readable (c .before .before)
+potentials-frame-requires c κs =
+    let at-if1 = c .before .before in
+    readable at-if1
 
 query-frame-requires : tie.Need-query-frame-requires
-query-frame-requires c κs = readable (c .before .before)
+query-frame-requires c κs =
+    let at-if1 = c .before .before in
+    readable at-if1
 
 arc-frame-requires-2 : tie.Need-arc-frame-requires-2
-arc-frame-requires-2 c κs = readable (c .before .before)
+arc-frame-requires-2 c κs =
+    let at-if1 = c .before .before in
+    readable at-if1
 
 returns : tie.Need-returns
 unfolding ofKind

@@ -54,7 +54,9 @@ cast-n : tie.Need-cast-n Inv-loop μ-loop
 cast-n c = omega (arith, below c)
 
 add-n : tie.Need-add-n Inv-loop μ-loop
-add-n c = omega (arith, below c, room-for-one (c .before .before))
+add-n c =
+    let at-loop-test = c .before .before in
+    omega (arith, below c, room-for-one at-loop-test)
 
 add-i : tie.Need-add-i Inv-loop μ-loop
 add-i c = omega arith

@@ -55,10 +55,14 @@ shared-slice-read-digits : tie.Need-shared-slice-read-digits Inv-loop μ-loop
 shared-slice-read-digits c = omega arith
 
 sub-write-field : tie.Need-sub-write-field Inv-loop μ-loop
-sub-write-field c = omega (arith, fits (c .before))
+sub-write-field c =
+    let at-loop-test = c .before in
+    omega (arith, fits at-loop-test)
 
 part-write-field-start : tie.Need-part-write-field-start Inv-loop μ-loop
-part-write-field-start c = omega (arith, fits (c .before))
+part-write-field-start c =
+    let at-loop-test = c .before in
+    omega (arith, fits at-loop-test)
 
 part-write-field-end : tie.Need-part-write-field-end Inv-loop μ-loop
 part-write-field-end c = omega arith

@@ -14,10 +14,20 @@ pattern-requires : tie.Need-pattern-requires
 pattern-requires c κs = search needs
 
 array-share-prefix-entries : tie.Need-array-share-prefix-entries
-array-share-prefix-entries c = omega (arith, pattern-whole (c .before .before .before .before .before .before .before .before .args .line .now) _ _ _ refl (c .before .pattern .ensures) .count-is, pattern-short (c .before .before .before .before .before .before .before .before .args .line .now))
+array-share-prefix-entries c =
+    let entry = c .before .before .before .before .before .before .before .before in
+    let pattern = c .before .pattern in
+    omega (arith, pattern-whole (entry .args .line .now) _ _ _ refl (pattern .ensures) .count-is, pattern-short (entry .args .line .now))
 
 slice-aggregate-write-lines : tie.Need-slice-aggregate-write-lines
-slice-aggregate-write-lines c = sym (length-take-le _ _ (omega (arith, pattern-whole (c .before .before .before .before .before .before .before .before .before .args .line .now) _ _ _ refl (c .before .before .pattern .ensures) .count-is, pattern-short (c .before .before .before .before .before .before .before .before .before .args .line .now))))
+slice-aggregate-write-lines c =
+    let entry = c .before .before .before .before .before .before .before .before .before in
+    let pattern = c .before .before .pattern in
+    sym (length-take-le _ _ (omega (
+      arith,
+      pattern-whole (entry .args .line .now) _ _ _ refl (pattern .ensures) .count-is,
+      pattern-short (entry .args .line .now),
+    )))
 
 write-lines-requires : tie.Need-write-lines-requires
 write-lines-requires c κs = search needs
@@ -26,7 +36,11 @@ same-length : tie.Need-same-length
 same-length c = search needs
 
 returns : tie.Need-returns
-returns c = rw (← laid-front _ _ _ _ (pattern-whole (c .before .before .before .before .before .before .before .before .before .before .before .before .before .args .line .now) _ _ _ refl (c .before .before .before .before .before .before .pattern .ensures))) (c .before .before .write-lines .ensures)
+returns c =
+    let entry = c .before .before .before .before .before .before .before .before .before .before .before .before .before in
+    let pattern = c .before .before .before .before .before .before .pattern in
+    let write-lines = c .before .before .write-lines in
+    rw (← laid-front _ _ _ _ (pattern-whole (entry .args .line .now) _ _ _ refl (pattern .ensures))) (write-lines .ensures)
 
 pub answer-query-spec : {M : Type 1} → statement M
 answer-query-spec =

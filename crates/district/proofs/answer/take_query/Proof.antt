@@ -21,7 +21,11 @@ same-length : tie.Need-same-length
 same-length c = search needs
 
 returns : tie.Need-returns
-returns c = stepped-as (no-query (fileOf _ _) (c .before .before .before .before .before .before .before .before .before .before .args .frame) (not-among 4 0 1 2 3 5 (λ p q. omega arith) (λ p q. omega arith) (λ p q. omega arith) (λ p q. omega arith) (λ p q. omega arith) (c .before .before .before .before .match .keys2))) (c .before .before .refuse-frame .ensures .law _ (c .before .before .before .before .before .before .before .before .before .before .pre .1 .1))
+returns c =
+    let entry = c .before .before .before .before .before .before .before .before .before .before in
+    let match = c .before .before .before .before .match in
+    let refuse-frame = c .before .before .refuse-frame in
+    stepped-as (no-query (fileOf _ _) (entry .args .frame) (not-among 4 0 1 2 3 5 (λ p q. omega arith) (λ p q. omega arith) (λ p q. omega arith) (λ p q. omega arith) (λ p q. omega arith) (match .keys2))) (refuse-frame .ensures .law _ (entry .pre .1 .1))
 
 one-too-many-requires : tie.Need-one-too-many-requires
 one-too-many-requires c κs = search needs
@@ -33,28 +37,48 @@ same-length-2 : tie.Need-same-length-2
 same-length-2 c = search needs
 
 returns-2 : tie.Need-returns-2
-returns-2 c = stepped-as (rw (c .before .before .before .before .before .before .before .frame .given .1) (one-too-many _ _ _ _ _ (sym (c .before .before .before .before .before .one-too-many .ensures) ∙ c .before .before .before .before .if1 .taken))) (c .before .before .refuse-frame2 .ensures .law _ (c .before .before .before .before .before .before .before .before .before .before .before .before .before .before .pre .1 .1))
+returns-2 c =
+    let entry = c .before .before .before .before .before .before .before .before .before .before .before .before .before .before in
+    let frame = c .before .before .before .before .before .before .before .frame in
+    let one-too-many-here = c .before .before .before .before .before .one-too-many in
+    let if1 = c .before .before .before .before .if1 in
+    let refuse-frame2 = c .before .before .refuse-frame2 in
+    stepped-as (rw (frame .given .1) (one-too-many _ _ _ _ _ (sym (one-too-many-here .ensures) ∙ if1 .taken))) (refuse-frame2 .ensures .law _ (entry .pre .1 .1))
 
 slice-aggregate-answer-query : tie.Need-slice-aggregate-answer-query
-slice-aggregate-answer-query c = sym (length-take-le _ _ (omega (arith, c .before .before .before .before .before .before .before .before .before .before .before .pre .1 .1 .counted, c .before .before .before .before .before .before .before .before .before .before .before .pre .1 .1 .roomy)))
+slice-aggregate-answer-query c =
+    let entry = c .before .before .before .before .before .before .before .before .before .before .before in
+    sym (length-take-le _ _ (omega (arith, entry .pre .1 .1 .counted, entry .pre .1 .1 .roomy)))
 
 slice-aggregate-answer-query-2 : tie.Need-slice-aggregate-answer-query-2
-slice-aggregate-answer-query-2 c = sym (length-take-le _ _ (omega (arith, c .before .before .before .before .before .before .before .before .before .before .before .before .pre .1 .1 .counted, c .before .before .before .before .before .before .before .before .before .before .before .before .pre .1 .1 .roomy)))
+slice-aggregate-answer-query-2 c =
+    let entry = c .before .before .before .before .before .before .before .before .before .before .before .before in
+    sym (length-take-le _ _ (omega (arith, entry .pre .1 .1 .counted, entry .pre .1 .1 .roomy)))
 
 slice-aggregate-answer-query-3 : tie.Need-slice-aggregate-answer-query-3
-slice-aggregate-answer-query-3 c = sym (length-take-le _ _ (omega (arith, c .before .before .before .before .before .before .before .before .before .before .before .before .before .pre .1 .1 .counted, c .before .before .before .before .before .before .before .before .before .before .before .before .before .pre .1 .1 .roomy)))
+slice-aggregate-answer-query-3 c =
+    let entry = c .before .before .before .before .before .before .before .before .before .before .before .before .before in
+    sym (length-take-le _ _ (omega (arith, entry .pre .1 .1 .counted, entry .pre .1 .1 .roomy)))
 
 slice-aggregate-answer-query-4 : tie.Need-slice-aggregate-answer-query-4
-slice-aggregate-answer-query-4 c = sym (length-take-le _ _ (omega (arith, c .before .before .before .before .before .before .before .before .before .before .before .before .before .before .pre .1 .1 .counted, c .before .before .before .before .before .before .before .before .before .before .before .before .before .before .pre .1 .1 .roomy)))
+slice-aggregate-answer-query-4 c =
+    let entry = c .before .before .before .before .before .before .before .before .before .before .before .before .before .before in
+    sym (length-take-le _ _ (omega (arith, entry .pre .1 .1 .counted, entry .pre .1 .1 .roomy)))
 
 slice-aggregate-answer-query-5 : tie.Need-slice-aggregate-answer-query-5
-slice-aggregate-answer-query-5 c = sym (length-take-le _ _ (omega (arith, c .before .before .before .before .before .before .before .before .before .before .before .before .before .before .before .pre .1 .1 .counted, c .before .before .before .before .before .before .before .before .before .before .before .before .before .before .before .pre .1 .1 .roomy)))
+slice-aggregate-answer-query-5 c =
+    let entry = c .before .before .before .before .before .before .before .before .before .before .before .before .before .before .before in
+    sym (length-take-le _ _ (omega (arith, entry .pre .1 .1 .counted, entry .pre .1 .1 .roomy)))
 
 slice-aggregate-answer-query-6 : tie.Need-slice-aggregate-answer-query-6
-slice-aggregate-answer-query-6 c = sym (length-take-le _ _ (omega (arith, c .before .before .before .before .before .before .before .before .before .before .before .before .before .before .before .before .pre .1 .1 .counted, c .before .before .before .before .before .before .before .before .before .before .before .before .before .before .before .before .pre .1 .1 .roomy)))
+slice-aggregate-answer-query-6 c =
+    let entry = c .before .before .before .before .before .before .before .before .before .before .before .before .before .before .before .before in
+    sym (length-take-le _ _ (omega (arith, entry .pre .1 .1 .counted, entry .pre .1 .1 .roomy)))
 
 answer-query-requires : tie.Need-answer-query-requires
-answer-query-requires c κs = known-by (c .before .before .before .before .before .before .before .before .before .before .before .before .before .before .before .before .before .args .reader) _ (c .before .before .before .before .before .before .before .before .before .before .before .before .before .before .before .before .before .pre .1 .1) (c .before .before .before .before .before .before .before .before .before .before .before .before .before .before .before .before .before .pre .1 .0)
+answer-query-requires c κs =
+    let entry = c .before .before .before .before .before .before .before .before .before .before .before .before .before .before .before .before .before in
+    known-by (entry .args .reader) _ (entry .pre .1 .1) (entry .pre .1 .0)
 
 next-line-requires : tie.Need-next-line-requires
 next-line-requires c κs = search needs
@@ -65,9 +89,14 @@ same-length-3 c = search needs
 returns-3 : tie.Need-returns-3
 unfolding toldBy
 returns-3 c =
-    let r = c .before .before .before .before .before .before .before .before .before .before .before .before .before .before .before .before .before .before .before .before .before .args .reader in
-    stepped-as (rw (c .before .before .before .before .before .before .before .before .before .before .before .before .before .before .frame .given .1) (may-be-asked r _ _ _ _ (sym (c .before .before .before .before .before .before .before .before .before .before .before .before .one-too-many .ensures) ∙ c .before .before .before .before .before .before .before .before .before .before .before .if1 .left)))
-    (query-taken r _ _ _ _ _ _ (c .next-line .ensures) (c .before .before .before .before .before .before .before .before .before .before .before .before .before .before .before .before .before .before .before .before .before .pre .1 .1) (c .before .before .before .answer-query .ensures))
+    let entry = c .before .before .before .before .before .before .before .before .before .before .before .before .before .before .before .before .before .before .before .before .before in
+    let frame = c .before .before .before .before .before .before .before .before .before .before .before .before .before .before .frame in
+    let one-too-many-here = c .before .before .before .before .before .before .before .before .before .before .before .before .one-too-many in
+    let if1 = c .before .before .before .before .before .before .before .before .before .before .before .if1 in
+    let answer-query = c .before .before .before .answer-query in
+    let r = entry .args .reader in
+    stepped-as (rw (frame .given .1) (may-be-asked r _ _ _ _ (sym (one-too-many-here .ensures) ∙ if1 .left)))
+    (query-taken r _ _ _ _ _ _ (c .next-line .ensures) (entry .pre .1 .1) (answer-query .ensures))
 
 pub take-query-spec : {M : Type 1} → statement M
 take-query-spec =

@@ -16,7 +16,8 @@ enum-told-2 c = search needs
 
 returns : tie.Need-returns
 returns c =
-    c .before .before .check-trip .ensures ∙ sym (firstRefusal-refused (sym (c .before .before .check-trip .ensures) ∙ c .enum-told2 .given .1) _)
+    let check-trip = c .before .before .check-trip in
+    check-trip .ensures ∙ sym (firstRefusal-refused (sym (check-trip .ensures) ∙ c .enum-told2 .given .1) _)
 
 returns-2 : tie.Need-returns-2
 returns-2 c = sym (firstRefusal-accepted (sym (c .before .before .check-trip .ensures) ∙ c .enum-told .given .1) _ ∙ firstRefusal-one _)

@@ -35,7 +35,11 @@ same-length : tie.Need-same-length
 same-length c = search needs
 
 returns : tie.Need-returns
-returns c = placed-as (left-lines _ _ _ _ (c .before .before .before .before .before .before .before .before .before .before .before .before .before .before .before .before .before .before .before .before .before .before .before .pre) (c .before .before .before .before .before .before .before .before .before .before .before .search-accepted .ensures)) (c .before .before .write-answer .ensures)
+returns c =
+    let entry = c .before .before .before .before .before .before .before .before .before .before .before .before .before .before .before .before .before .before .before .before .before .before .before in
+    let search-accepted = c .before .before .before .before .before .before .before .before .before .before .before .search-accepted in
+    let write-answer = c .before .before .write-answer in
+    placed-as (left-lines _ _ _ _ (entry .pre) (search-accepted .ensures)) (write-answer .ensures)
 
 pub write-found-spec : {M : Type 1} → statement M
 write-found-spec =

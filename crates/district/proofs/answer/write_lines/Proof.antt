@@ -19,13 +19,21 @@ same-length c = search needs
 
 returns : tie.Need-returns
 returns c =
-    placed-as (refused-lines _ _ (sym (c .before .before .before .before .before .before .before .verdict-on .ensures ∙ verdict-parts (c .before .before .before .before .before .before .before .before .before .before .before .before .before .pre) _ _ _) ∙ c .before .before .before .before .before .verdict .given .1)) (c .before .before .write-refusal .ensures)
+    let entry = c .before .before .before .before .before .before .before .before .before .before .before .before .before in
+    let verdict-on = c .before .before .before .before .before .before .before .verdict-on in
+    let verdict = c .before .before .before .before .before .verdict in
+    let write-refusal = c .before .before .write-refusal in
+    placed-as (refused-lines _ _ (sym (verdict-on .ensures ∙ verdict-parts (entry .pre) _ _ _) ∙ verdict .given .1)) (write-refusal .ensures)
 
 enum-told : tie.Need-enum-told
 enum-told c = search needs
 
 write-found-requires : tie.Need-write-found-requires
-write-found-requires c κs = sym (c .before .before .before .verdict-on .ensures ∙ verdict-parts (c .before .before .before .before .before .before .before .before .before .pre) _ _ _) ∙ c .before .enum-told .given .1
+write-found-requires c κs =
+    let entry = c .before .before .before .before .before .before .before .before .before in
+    let verdict-on = c .before .before .before .verdict-on in
+    let enum-told = c .before .enum-told in
+    sym (verdict-on .ensures ∙ verdict-parts (entry .pre) _ _ _) ∙ enum-told .given .1
 
 same-length-2 : tie.Need-same-length-2
 same-length-2 c = search needs

@@ -13,26 +13,38 @@ returns : tie.Need-returns
 returns c = sym (without-potentials _ _ _ _ _ _ (c .if1 .taken))
 
 slice-aggregate-check-network : tie.Need-slice-aggregate-check-network
-slice-aggregate-check-network c = sym (length-take-le _ _ (c .before .before .before .before .before .before .pre .in-tails))
+slice-aggregate-check-network c =
+    let entry = c .before .before .before .before .before .before in
+    sym (length-take-le _ _ (entry .pre .in-tails))
 
 slice-aggregate-check-network-2 : tie.Need-slice-aggregate-check-network-2
-slice-aggregate-check-network-2 c = sym (length-take-le _ _ (c .before .before .before .before .before .before .before .pre .in-heads))
+slice-aggregate-check-network-2 c =
+    let entry = c .before .before .before .before .before .before .before in
+    sym (length-take-le _ _ (entry .pre .in-heads))
 
 slice-aggregate-check-network-3 : tie.Need-slice-aggregate-check-network-3
-slice-aggregate-check-network-3 c = sym (length-take-le _ _ (c .before .before .before .before .before .before .before .before .pre .in-weights))
+slice-aggregate-check-network-3 c =
+    let entry = c .before .before .before .before .before .before .before .before in
+    sym (length-take-le _ _ (entry .pre .in-weights))
 
 slice-aggregate-check-network-4 : tie.Need-slice-aggregate-check-network-4
-slice-aggregate-check-network-4 c = sym (length-take-le _ _ (c .before .before .before .before .before .before .before .before .before .pre .in-forward))
+slice-aggregate-check-network-4 c =
+    let entry = c .before .before .before .before .before .before .before .before .before in
+    sym (length-take-le _ _ (entry .pre .in-forward))
 
 slice-aggregate-check-network-5 : tie.Need-slice-aggregate-check-network-5
-slice-aggregate-check-network-5 c = sym (length-take-le _ _ (c .before .before .before .before .before .before .before .before .before .before .pre .in-backward))
+slice-aggregate-check-network-5 c =
+    let entry = c .before .before .before .before .before .before .before .before .before .before in
+    sym (length-take-le _ _ (entry .pre .in-backward))
 
 check-network-requires : tie.Need-check-network-requires
 check-network-requires c κs = search needs
 
 returns-2 : tie.Need-returns-2
 returns-2 c =
-    c .check-network .ensures ∙ sym (with-all (c .before .before .before .before .before .before .before .before .before .before .before .args .reader) _ _ _ _ _ (record { some = c .before .before .before .before .before .before .before .before .before .before .before .pre .some; each = c .before .before .before .before .before .before .if1 .left }))
+    let entry = c .before .before .before .before .before .before .before .before .before .before .before in
+    let if1 = c .before .before .before .before .before .before .if1 in
+    c .check-network .ensures ∙ sym (with-all (entry .args .reader) _ _ _ _ _ (record { some = entry .pre .some; each = if1 .left }))
 
 pub own-verdict-spec : {M : Type 1} → statement M
 own-verdict-spec =

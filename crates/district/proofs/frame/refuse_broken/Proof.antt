@@ -15,7 +15,10 @@ same-length c = search needs
 
 returns : tie.Need-returns
 unfolding brokenLine fileOf
-returns c = over-as (λ l k. rw (eq-eqb _ _ (c .before .before .before .before .if1 .taken))) (c .before .before .refuse .ensures)
+returns c =
+    let if1 = c .before .before .before .before .if1 in
+    let refuse = c .before .before .refuse in
+    over-as (λ l k. rw (eq-eqb _ _ (if1 .taken))) (refuse .ensures)
 
 refuse-requires-2 : tie.Need-refuse-requires-2
 refuse-requires-2 c κs = search needs
@@ -25,7 +28,10 @@ same-length-2 c = search needs
 
 returns-2 : tie.Need-returns-2
 unfolding brokenLine fileOf
-returns-2 c = over-as (λ l k. rw (ne-eqb _ _ (c .before .before .before .before .if1 .left))) (c .before .before .refuse2 .ensures)
+returns-2 c =
+    let if1 = c .before .before .before .before .if1 in
+    let refuse2 = c .before .before .refuse2 in
+    over-as (λ l k. rw (ne-eqb _ _ (if1 .left))) (refuse2 .ensures)
 
 pub refuse-broken-spec : {M : Type 1} → statement M
 refuse-broken-spec =

@@ -18,7 +18,11 @@ same-length c = search needs
 
 returns : tie.Need-returns
 unfolding fileOf
-returns c = over-as (λ l h. rw (sound-misplaced (c .before .before .before .before .before .before .args .frame) _ (not-among 5 0 1 2 3 4 (λ p q. omega arith) (λ p q. omega arith) (λ p q. omega arith) (λ p q. omega arith) (λ p q. omega arith) (c .before .before .before .before .match .keys2)))) (c .before .before .refuse .ensures)
+returns c =
+    let entry = c .before .before .before .before .before .before in
+    let match = c .before .before .before .before .match in
+    let refuse = c .before .before .refuse in
+    over-as (λ l h. rw (sound-misplaced (entry .args .frame) _ (not-among 5 0 1 2 3 4 (λ p q. omega arith) (λ p q. omega arith) (λ p q. omega arith) (λ p q. omega arith) (λ p q. omega arith) (match .keys2)))) (refuse .ensures)
 
 refuse-requires-2 : tie.Need-refuse-requires-2
 refuse-requires-2 c κs = search needs
@@ -28,7 +32,10 @@ same-length-2 c = search needs
 
 returns-2 : tie.Need-returns-2
 unfolding fileOf
-returns-2 c = over-as (λ l h. rw (c .before .before .before .before .enum-told .given .1)) (c .before .before .refuse2 .ensures)
+returns-2 c =
+    let enum-told = c .before .before .before .before .enum-told in
+    let refuse2 = c .before .before .refuse2 in
+    over-as (λ l h. rw (enum-told .given .1)) (refuse2 .ensures)
 
 pub refuse-frame-spec : {M : Type 1} → statement M
 refuse-frame-spec =

@@ -11,7 +11,12 @@ enum-known-frame : tie.Need-enum-known-frame
 enum-known-frame c = search needs
 
 take-link-requires : tie.Need-take-link-requires
-take-link-requires c κs = (c .before .before .before .before .before .before .before .before .before .pre, no-arc (c .before .before .before .before .before .before .before .before .before .args .frame) (not-among 1 0 2 3 4 5 (λ p q. omega arith) (λ p q. omega arith) (λ p q. omega arith) (λ p q. omega arith) (λ p q. omega arith) (c .before .before .before .before .match .keys2)))
+take-link-requires c κs =
+    let entry = c .before .before .before .before .before .before .before .before .before in
+    let match = c .before .before .before .before .match in (
+      entry .pre,
+      no-arc (entry .args .frame) (not-among 1 0 2 3 4 5 (λ p q. omega arith) (λ p q. omega arith) (λ p q. omega arith) (λ p q. omega arith) (λ p q. omega arith) (match .keys2)),
+    )
 
 same-length : tie.Need-same-length
 same-length c = search needs
@@ -48,13 +53,16 @@ same-length-7 c = search needs
 
 returns-2 : tie.Need-returns-2
 returns-2 c =
-    let a = c .before .before .before .before .before .before .before .before .before .before .before .before .before .before .before .before .before .before .args in
-    let given = c .before .before .before .before .before .before .before .before .before .before .before .before .frame .given in
-    let put = c .before .before .before .before .before .before .before .put-arc .ensures in
-    arcs-taken (a .reader) _ (a .frame) 1 _ (c .next-line .ensures) (rw (given .1)) (omega arith) (omega (arith, c .before .before .before .before .before .before .before .before .before .before .before .before .before .before .before .before .before .before .pre .owed))
-    (rw (given .1) (grown-one (a .tails .now) _ (given .0 .0) (put .0) (omega (arith, c .before .before .before .before .before .before .before .before .before .before .before .before .before .before .before .before .before .before .pre))))
-    (rw (given .1) (grown-one (a .heads .now) _ (given .0 .1 .0) (put .1) (omega (arith, c .before .before .before .before .before .before .before .before .before .before .before .before .before .before .before .before .before .before .pre))))
-    (rw (given .1) (grown-one (a .weights .now) _ (given .0 .1 .1 .0) (put .2) (omega (arith, c .before .before .before .before .before .before .before .before .before .before .before .before .before .before .before .before .before .before .pre))))
+    let entry = c .before .before .before .before .before .before .before .before .before .before .before .before .before .before .before .before .before .before in
+    let frame = c .before .before .before .before .before .before .before .before .before .before .before .before .frame in
+    let put-arc = c .before .before .before .before .before .before .before .put-arc in
+    let a = entry .args in
+    let given = frame .given in
+    let put = put-arc .ensures in
+    arcs-taken (a .reader) _ (a .frame) 1 _ (c .next-line .ensures) (rw (given .1)) (omega arith) (omega (arith, entry .pre .owed))
+    (rw (given .1) (grown-one (a .tails .now) _ (given .0 .0) (put .0) (omega (arith, entry .pre))))
+    (rw (given .1) (grown-one (a .heads .now) _ (given .0 .1 .0) (put .1) (omega (arith, entry .pre))))
+    (rw (given .1) (grown-one (a .weights .now) _ (given .0 .1 .1 .0) (put .2) (omega (arith, entry .pre))))
 
 pub take-arcs-spec : {M : Type 1} → statement M
 take-arcs-spec =

@@ -11,7 +11,11 @@ same-length : tie.Need-same-length
 same-length c = search needs
 
 returns : tie.Need-returns
-returns c = stepped-as (where-size-owed _ _ (c .before .before .before .before .before .before .before .before .before .before .before .pre .1) (c .before .before .before .before .before .before .before .before .before .before .before .args .frame) (c .before .before .before .before .if1 .taken)) (c .before .before .take-size .ensures .law _ (c .before .before .before .before .before .before .before .before .before .before .before .pre .1))
+returns c =
+    let entry = c .before .before .before .before .before .before .before .before .before .before .before in
+    let if1 = c .before .before .before .before .if1 in
+    let take-size = c .before .before .take-size in
+    stepped-as (where-size-owed _ _ (entry .pre .1) (entry .args .frame) (if1 .taken)) (take-size .ensures .law _ (entry .pre .1))
 
 take-arcs-requires : tie.Need-take-arcs-requires
 take-arcs-requires c κs = search needs
@@ -29,13 +33,22 @@ same-length-5 : tie.Need-same-length-5
 same-length-5 c = search needs
 
 returns-2 : tie.Need-returns-2
-returns-2 c = stepped-as (where-arcs-owed _ _ (c .before .before .before .before .before .before .before .before .before .before .before .before .before .before .before .before .before .before .before .before .before .before .pre .1) (c .before .before .before .before .before .before .before .before .before .before .before .before .before .before .before .before .before .before .before .before .before .before .args .frame) (c .before .before .before .before .before .before .before .before .before .before .before .before .before .before .before .if1 .left) (c .before .before .before .before .before .before .before .before .before .before .before .before .before .if2 .taken)) (c .before .before .before .before .before .before .before .before .take-arcs .ensures .law _ _ _ (c .before .before .before .before .before .before .before .before .before .before .before .before .before .before .before .before .before .before .before .before .before .before .pre .1))
+returns-2 c =
+    let entry = c .before .before .before .before .before .before .before .before .before .before .before .before .before .before .before .before .before .before .before .before .before .before in
+    let if1 = c .before .before .before .before .before .before .before .before .before .before .before .before .before .before .before .if1 in
+    let if2 = c .before .before .before .before .before .before .before .before .before .before .before .before .before .if2 in
+    let take-arcs = c .before .before .before .before .before .before .before .before .take-arcs in
+    stepped-as (where-arcs-owed _ _ (entry .pre .1) (entry .args .frame) (if1 .left) (if2 .taken)) (take-arcs .ensures .law _ _ _ (entry .pre .1))
 
 cast-if3 : tie.Need-cast-if3
 cast-if3 c = search needs
 
 take-potentials-requires : tie.Need-take-potentials-requires
-take-potentials-requires c κs = potentials-open (c .before .before .before .before .before .before .before .before .before .before .before .before .before .before .before .before .before .before .args .reader) _ (c .before .before .before .before .before .before .before .before .before .before .before .before .before .before .before .before .before .before .pre .1) (c .before .before .before .before .before .before .before .before .before .before .before .before .before .before .before .before .before .before .pre .0) (c .before .before .before .before .before .before .before .before .before .if2 .left) (c .before .before .before .before .before .before .if3 .taken)
+take-potentials-requires c κs =
+    let entry = c .before .before .before .before .before .before .before .before .before .before .before .before .before .before .before .before .before .before in
+    let if2 = c .before .before .before .before .before .before .before .before .before .if2 in
+    let if3 = c .before .before .before .before .before .before .if3 in
+    potentials-open (entry .args .reader) _ (entry .pre .1) (entry .pre .0) (if2 .left) (if3 .taken)
 
 same-length-6 : tie.Need-same-length-6
 same-length-6 c = search needs
@@ -56,10 +69,20 @@ same-length-11 : tie.Need-same-length-11
 same-length-11 c = search needs
 
 returns-3 : tie.Need-returns-3
-returns-3 c = stepped-as (where-potentials-owed _ _ (c .before .before .before .before .before .before .before .before .before .before .before .before .before .before .before .before .before .before .before .before .before .before .before .pre .1) (c .before .before .before .before .before .before .before .before .before .before .before .before .before .before .before .before .before .before .before .before .before .before .before .args .frame) (c .before .before .before .before .before .before .before .before .before .before .before .before .before .before .before .before .if1 .left) (c .before .before .before .before .before .before .before .before .before .before .before .before .before .before .if2 .left) (c .before .before .before .before .before .before .before .before .before .before .before .if3 .taken)) (c .before .before .before .before .take-potentials .ensures .law _ (c .before .before .before .before .before .before .before .before .before .before .before .before .before .before .before .before .before .before .before .before .before .before .before .pre .1))
+returns-3 c =
+    let entry = c .before .before .before .before .before .before .before .before .before .before .before .before .before .before .before .before .before .before .before .before .before .before .before in
+    let if1 = c .before .before .before .before .before .before .before .before .before .before .before .before .before .before .before .before .if1 in
+    let if2 = c .before .before .before .before .before .before .before .before .before .before .before .before .before .before .if2 in
+    let if3 = c .before .before .before .before .before .before .before .before .before .before .before .if3 in
+    let take-potentials = c .before .before .before .before .take-potentials in
+    stepped-as (where-potentials-owed _ _ (entry .pre .1) (entry .args .frame) (if1 .left) (if2 .left) (if3 .taken)) (take-potentials .ensures .law _ (entry .pre .1))
 
 take-query-requires : tie.Need-take-query-requires
-take-query-requires c κs = (c .before .before .before .before .before .before .before .before .before .before .before .before .before .before .before .before .before .before .pre .0, (record { some = positive _ (c .before .before .before .before .before .before .before .before .before .before .before .if1 .left); each = c .before .before .before .before .before .before .if3 .left }, c .before .before .before .before .before .before .before .before .before .before .before .before .before .before .before .before .before .before .pre .1))
+take-query-requires c κs =
+    let entry = c .before .before .before .before .before .before .before .before .before .before .before .before .before .before .before .before .before .before in
+    let if1 = c .before .before .before .before .before .before .before .before .before .before .before .if1 in
+    let if3 = c .before .before .before .before .before .before .if3 in
+    (entry .pre .0, (record { some = positive _ (if1 .left); each = if3 .left }, entry .pre .1))
 
 same-length-12 : tie.Need-same-length-12
 same-length-12 c = search needs
@@ -80,7 +103,13 @@ same-length-17 : tie.Need-same-length-17
 same-length-17 c = search needs
 
 returns-4 : tie.Need-returns-4
-returns-4 c = stepped-as (where-none-owed _ _ (c .before .before .before .before .before .before .before .before .before .before .before .before .before .before .before .before .before .before .before .before .before .pre .1) (c .before .before .before .before .before .before .before .before .before .before .before .before .before .before .before .before .before .before .before .before .before .args .frame) (c .before .before .before .before .before .before .before .before .before .before .before .before .before .before .if1 .left) (c .before .before .before .before .before .before .before .before .before .before .before .before .if2 .left) (c .before .before .before .before .before .before .before .before .before .if3 .left)) (c .before .before .take-query .ensures)
+returns-4 c =
+    let entry = c .before .before .before .before .before .before .before .before .before .before .before .before .before .before .before .before .before .before .before .before .before in
+    let if1 = c .before .before .before .before .before .before .before .before .before .before .before .before .before .before .if1 in
+    let if2 = c .before .before .before .before .before .before .before .before .before .before .before .before .if2 in
+    let if3 = c .before .before .before .before .before .before .before .before .before .if3 in
+    let take-query = c .before .before .take-query in
+    stepped-as (where-none-owed _ _ (entry .pre .1) (entry .args .frame) (if1 .left) (if2 .left) (if3 .left)) (take-query .ensures)
 
 pub take-frame-spec : {M : Type 1} → statement M
 take-frame-spec =

@@ -14,10 +14,16 @@ same-length : tie.Need-same-length
 same-length c = search needs
 
 returns : tie.Need-returns
-returns c = stepped-as (last-line _ _ (c .before .before .before .before .if1 .taken)) (c .before .before .refuse .ensures .law _ (c .before .before .before .before .before .before .before .before .before .before .before .pre))
+returns c =
+    let entry = c .before .before .before .before .before .before .before .before .before .before .before in
+    let if1 = c .before .before .before .before .if1 in
+    let refuse = c .before .before .refuse in
+    stepped-as (last-line _ _ (if1 .taken)) (refuse .ensures .law _ (entry .pre))
 
 slice-aggregate-decode : tie.Need-slice-aggregate-decode
-slice-aggregate-decode c = sym (length-take-le _ _ (omega (arith, c .before .before .before .before .before .before .before .before .pre .counted, c .before .before .before .before .before .before .before .before .pre .roomy)))
+slice-aggregate-decode c =
+    let entry = c .before .before .before .before .before .before .before .before in
+    sym (length-take-le _ _ (omega (arith, entry .pre .counted, entry .pre .roomy)))
 
 decode-requires : tie.Need-decode-requires
 decode-requires c κs = search needs
@@ -44,7 +50,11 @@ same-length-7 : tie.Need-same-length-7
 same-length-7 c = search needs
 
 returns-2 : tie.Need-returns-2
-returns-2 c = stepped-as (other-line _ _ (c .before .before .before .before .before .before .before .before .before .before .before .before .before .before .before .before .before .before .before .if1 .left) (c .before .before .before .before .before .before .before .before .before .before .before .before .before .before .before .before .before .decode .ensures)) (c .before .before .before .before .before .before .before .before .before .before .take-frame .ensures)
+returns-2 c =
+    let if1 = c .before .before .before .before .before .before .before .before .before .before .before .before .before .before .before .before .before .before .before .if1 in
+    let decode = c .before .before .before .before .before .before .before .before .before .before .before .before .before .before .before .before .before .decode in
+    let take-frame = c .before .before .before .before .before .before .before .before .before .before .take-frame in
+    stepped-as (other-line _ _ (if1 .left) (decode .ensures)) (take-frame .ensures)
 
 pub take-line-spec : {M : Type 1} → statement M
 take-line-spec =

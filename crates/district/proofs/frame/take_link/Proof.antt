@@ -19,7 +19,11 @@ same-length : tie.Need-same-length
 same-length c = search needs
 
 returns : tie.Need-returns
-returns c = over-arcs _ _ _ (over-as (λ l h. no-arcs (fileOf _ l) (c .before .before .before .before .before .before .before .before .before .args .frame) (c .before .before .before .before .before .before .before .before .before .pre .1) (not-among 2 0 1 3 4 5 (λ p q. omega arith) (λ p q. omega arith) (λ p q. omega arith) (λ p q. omega arith) (λ p q. omega arith) (c .before .before .before .before .match .keys2))) (c .before .before .refuse-frame .ensures))
+returns c =
+    let entry = c .before .before .before .before .before .before .before .before .before in
+    let match = c .before .before .before .before .match in
+    let refuse-frame = c .before .before .refuse-frame in
+    over-arcs _ _ _ (over-as (λ l h. no-arcs (fileOf _ l) (entry .args .frame) (entry .pre .1) (not-among 2 0 1 3 4 5 (λ p q. omega arith) (λ p q. omega arith) (λ p q. omega arith) (λ p q. omega arith) (λ p q. omega arith) (match .keys2))) (refuse-frame .ensures))
 
 sub-if1 : tie.Need-sub-if1
 sub-if1 c = search needs
@@ -32,8 +36,11 @@ same-length-2 c = search needs
 
 returns-2 : tie.Need-returns-2
 returns-2 c =
+    let frame = c .before .before .before .before .before .before .before .frame in
+    let if1 = c .before .before .before .before .if1 in
+    let refuse-frame2 = c .before .before .refuse-frame2 in
     over-arcs _ _ _
-    (over-as (λ l h. rw (c .before .before .before .before .before .before .before .frame .given .1) (too-many-arcs _ l h _ (omega (arith, c .before .before .before .before .if1 .taken)))) (c .before .before .refuse-frame2 .ensures))
+    (over-as (λ l h. rw (frame .given .1) (too-many-arcs _ l h _ (omega (arith, if1 .taken)))) (refuse-frame2 .ensures))
 
 put-arc-requires : tie.Need-put-arc-requires
 put-arc-requires c κs = search needs
@@ -45,10 +52,14 @@ put-arc-requires-2 : tie.Need-put-arc-requires-2
 put-arc-requires-2 c κs = search needs
 
 next-line-requires : tie.Need-next-line-requires
-next-line-requires c κs = c .before .before .before .before .before .before .before .before .before .before .before .before .before .before .before .before .before .before .before .before .before .before .before .before .before .before .before .before .before .pre .0 .not-last
+next-line-requires c κs =
+    let entry = c .before .before .before .before .before .before .before .before .before .before .before .before .before .before .before .before .before .before .before .before .before .before .before .before .before .before .before .before .before in
+    entry .pre .0 .not-last
 
 add-next : tie.Need-add-next
-add-next c = omega (arith, c .before .before .before .before .before .before .before .before .before .before .before .before .before .before .before .before .before .before .before .before .before .before .before .before .before .before .before .before .before .before .pre .0)
+add-next c =
+    let entry = c .before .before .before .before .before .before .before .before .before .before .before .before .before .before .before .before .before .before .before .before .before .before .before .before .before .before .before .before .before .before in
+    omega (arith, entry .pre .0)
 
 same-length-3 : tie.Need-same-length-3
 same-length-3 c = search needs
@@ -61,14 +72,19 @@ same-length-5 c = search needs
 
 returns-3 : tie.Need-returns-3
 returns-3 c =
-    let a = c .before .before .before .before .before .before .before .before .before .before .before .before .before .before .before .before .before .before .before .before .before .before .before .before .before .before .before .before .before .before .args in
-    let given = c .before .before .before .before .before .before .before .before .before .before .before .before .before .before .before .before .before .before .before .before .before .before .before .before .frame .given in
-    let one = c .before .before .before .before .before .before .before .before .before .before .before .before .before .before .before .before .before .put-arc .ensures in
-    let two = c .before .before .before .before .before .before .before .put-arc2 .ensures in
-    arcs-taken (a .reader) _ (a .frame) 2 _ (c .next-line .ensures) (rw (given .1)) (omega arith) (omega (arith, c .before .before .before .before .before .before .before .before .before .before .before .before .before .before .before .before .before .before .before .before .before .if1 .left))
-    (rw (given .1) (grown-two (a .tails .now) _ (given .0 .0) (given .0 .1 .0) (one .0) (two .0) (omega (arith, c .before .before .before .before .before .before .before .before .before .before .before .before .before .before .before .before .before .before .before .before .before .before .before .before .before .before .before .before .before .before .pre .0, c .before .before .before .before .before .before .before .before .before .before .before .before .before .before .before .before .before .before .before .before .before .if1 .left))))
-    (rw (given .1) (grown-two (a .heads .now) _ (given .0 .1 .0) (given .0 .0) (one .1) (two .1) (omega (arith, c .before .before .before .before .before .before .before .before .before .before .before .before .before .before .before .before .before .before .before .before .before .before .before .before .before .before .before .before .before .before .pre .0, c .before .before .before .before .before .before .before .before .before .before .before .before .before .before .before .before .before .before .before .before .before .if1 .left))))
-    (rw (given .1) (grown-two (a .weights .now) _ (given .0 .1 .1 .0) (given .0 .1 .1 .0) (one .2) (two .2) (omega (arith, c .before .before .before .before .before .before .before .before .before .before .before .before .before .before .before .before .before .before .before .before .before .before .before .before .before .before .before .before .before .before .pre .0, c .before .before .before .before .before .before .before .before .before .before .before .before .before .before .before .before .before .before .before .before .before .if1 .left))))
+    let entry = c .before .before .before .before .before .before .before .before .before .before .before .before .before .before .before .before .before .before .before .before .before .before .before .before .before .before .before .before .before .before in
+    let frame = c .before .before .before .before .before .before .before .before .before .before .before .before .before .before .before .before .before .before .before .before .before .before .before .before .frame in
+    let if1 = c .before .before .before .before .before .before .before .before .before .before .before .before .before .before .before .before .before .before .before .before .before .if1 in
+    let put-arc = c .before .before .before .before .before .before .before .before .before .before .before .before .before .before .before .before .before .put-arc in
+    let put-arc2 = c .before .before .before .before .before .before .before .put-arc2 in
+    let a = entry .args in
+    let given = frame .given in
+    let one = put-arc .ensures in
+    let two = put-arc2 .ensures in
+    arcs-taken (a .reader) _ (a .frame) 2 _ (c .next-line .ensures) (rw (given .1)) (omega arith) (omega (arith, if1 .left))
+    (rw (given .1) (grown-two (a .tails .now) _ (given .0 .0) (given .0 .1 .0) (one .0) (two .0) (omega (arith, entry .pre .0, if1 .left))))
+    (rw (given .1) (grown-two (a .heads .now) _ (given .0 .1 .0) (given .0 .0) (one .1) (two .1) (omega (arith, entry .pre .0, if1 .left))))
+    (rw (given .1) (grown-two (a .weights .now) _ (given .0 .1 .1 .0) (given .0 .1 .1 .0) (one .2) (two .2) (omega (arith, entry .pre .0, if1 .left))))
 
 pub take-link-spec : {M : Type 1} → statement M
 take-link-spec =

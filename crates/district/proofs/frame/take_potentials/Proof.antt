@@ -30,7 +30,11 @@ same-length : tie.Need-same-length
 same-length c = search needs
 
 returns : tie.Need-returns
-returns c = over-potentials _ _ _ _ _ (over-as (λ l h. no-potentials (fileOf _ l) (c .before .before .before .before .before .before .before .before .before .args .frame) (not-among 3 0 1 2 4 5 (λ p q. omega arith) (λ p q. omega arith) (λ p q. omega arith) (λ p q. omega arith) (λ p q. omega arith) (c .before .before .before .before .match .keys2))) (c .before .before .refuse-frame .ensures))
+returns c =
+    let entry = c .before .before .before .before .before .before .before .before .before in
+    let match = c .before .before .before .before .match in
+    let refuse-frame = c .before .before .refuse-frame in
+    over-potentials _ _ _ _ _ (over-as (λ l h. no-potentials (fileOf _ l) (entry .args .frame) (not-among 3 0 1 2 4 5 (λ p q. omega arith) (λ p q. omega arith) (λ p q. omega arith) (λ p q. omega arith) (λ p q. omega arith) (match .keys2))) (refuse-frame .ensures))
 
 cast-if1 : tie.Need-cast-if1
 cast-if1 c = search needs
@@ -43,8 +47,11 @@ same-length-2 c = search needs
 
 returns-2 : tie.Need-returns-2
 returns-2 c =
+    let frame = c .before .before .before .before .before .before .frame in
+    let if1 = c .before .before .before .before .if1 in
+    let refuse-frame2 = c .before .before .refuse-frame2 in
     over-potentials _ _ _ _ _
-    (over-as (λ l h. rw (c .before .before .before .before .before .before .frame .given .1) (other-node _ l h _ _ _ (c .before .before .before .before .if1 .taken))) (c .before .before .refuse-frame2 .ensures))
+    (over-as (λ l h. rw (frame .given .1) (other-node _ l h _ _ _ (if1 .taken))) (refuse-frame2 .ensures))
 
 mul-h : tie.Need-mul-h
 mul-h c = search needs
@@ -66,9 +73,11 @@ add-next c = search needs
 
 own-verdict-requires : tie.Need-own-verdict-requires
 own-verdict-requires c κs =
-    let a = c .before .before .before .before .before .before .before .before .before .before .before .args in
+    let entry = c .before .before .before .before .before .before .before .before .before .before .before in
+    let next-line = c .before .before .next-line in
+    let a = entry .args in
     let at = a .reader .«nodes_read» in
-    read-next (a .reader) _ _ _ _ _ _ _ _ (c .before .before .next-line .ensures) (c .before .before .before .before .before .before .before .before .before .before .before .pre) (length-set {A = ℤ} (a .forward .now) at _) (length-set {A = ℤ} (a .backward .now) at _)
+    read-next (a .reader) _ _ _ _ _ _ _ _ (next-line .ensures) (entry .pre) (length-set {A = ℤ} (a .forward .now) at _) (length-set {A = ℤ} (a .backward .now) at _)
 
 with-verdict-requires : tie.Need-with-verdict-requires
 with-verdict-requires c κs = search needs
@@ -81,14 +90,20 @@ same-length-4 c = search needs
 
 returns-3 : tie.Need-returns-3
 returns-3 c =
-    let a = c .before .before .before .before .before .before .before .before .before .before .before .before .before .args in
-    let given = c .before .before .before .before .before .before .before .frame .given in
-    let fits = c .before .before .before .before .before .before .known-told .given in
+    let entry = c .before .before .before .before .before .before .before .before .before .before .before .before .before in
+    let frame = c .before .before .before .before .before .before .before .frame in
+    let known-told = c .before .before .before .before .before .before .known-told in
+    let if1 = c .before .before .before .before .before .if1 in
+    let next-line = c .before .before .before .before .next-line in
+    let own-verdict = c .before .own-verdict in
+    let a = entry .args in
+    let given = frame .given in
+    let fits = known-told .given in
     rw (given .1, c .with-verdict .ensures)
-    (potentials-taken (a .reader) _ (given .0 .0) (given .0 .1 .0) (given .0 .1 .1 .0) _ _ (c .before .before .before .before .next-line .ensures) (c .before .before .before .before .before .if1 .left) (c .before .before .before .before .before .before .before .before .before .before .before .before .before .pre .arcs-read) (c .before .before .before .before .before .before .before .before .before .before .before .before .before .pre .owed)
-    (grown-one (a .forward .now) _ (given .0 .1 .0) (ap (set (a .forward .now) (a .reader .«nodes_read»)) (back32 _ (fits .1 .0 .1))) (omega (arith, c .before .before .before .before .before .before .before .before .before .before .before .before .before .pre)))
-    (grown-one (a .backward .now) _ (given .0 .1 .1 .0) (ap (set (a .backward .now) (a .reader .«nodes_read»)) (back32 _ (fits .1 .1 .0 .1))) (omega (arith, c .before .before .before .before .before .before .before .before .before .before .before .before .before .pre)))
-    (c .before .own-verdict .ensures))
+    (potentials-taken (a .reader) _ (given .0 .0) (given .0 .1 .0) (given .0 .1 .1 .0) _ _ (next-line .ensures) (if1 .left) (entry .pre .arcs-read) (entry .pre .owed)
+    (grown-one (a .forward .now) _ (given .0 .1 .0) (ap (set (a .forward .now) (a .reader .«nodes_read»)) (back32 _ (fits .1 .0 .1))) (omega (arith, entry .pre)))
+    (grown-one (a .backward .now) _ (given .0 .1 .1 .0) (ap (set (a .backward .now) (a .reader .«nodes_read»)) (back32 _ (fits .1 .1 .0 .1))) (omega (arith, entry .pre)))
+    (own-verdict .ensures))
 
 pub take-potentials-spec : {M : Type 1} → statement M
 take-potentials-spec =
