@@ -1,13 +1,10 @@
 // Program `routeline`: a district file on standard input, its answer lines on standard output (document 01, "District frames").
-// All that matters is done by `district`, byte by byte; what is here reads the bytes as they come and writes the answers
-// before it reads again, so a person who types a query sees its answer at once. The memory is fixed: the lists of `main`.
-// No contract can say what is read and written, so the work is in functions over lists, `answer_part` above all: what it
-// leaves in the room is what the definition prints for the bytes that it took.
-ghost use Prim.Native.Nat.{_≤_};
-ghost use lib.ListN.{length};
-ghost use Rattle.district.specs.Reader.{lists, fileOf, Kept, Reached, mostBytes};
-ghost use Rattle.routeline.specs.Part.{Answers, Passes};
+// The program is a talk with the system. What it asks next, and what the system's answer changes, is decided by functions over
+// numbers and lists, each under a contract (specs/Talk.antt): an answer is written, whole, before a further byte is looked at,
+// and nothing is read while something is owed. What no contract can reach is small and stands at the end: `hear` and `say`,
+// which call the system, `pause`, the words for people, and `main`. The memory is fixed: the lists of `main`.
 use district::Reader;
+use libc::STDERR_FILENO;
 use libc::STDIN_FILENO;
 use libc::STDOUT_FILENO;
 
@@ -18,73 +15,159 @@ const ARCS: usize = network::MOST_ARCS;
 
 const NODES: usize = network::MOST_NODES as usize;
 
-// The bytes of the longest answer.
-const ANSWER: usize = district::MOST_BYTES;
-
 // The bytes of one read, at the most.
 const CHUNK: usize = 16384;
 
-// The room in which answers gather before they are written: at least seven, and many more where they are short.
-const ROOM: usize = 65536;
+// The room in which an answer stands until it is written: the bytes of the longest.
+const ROOM: usize = district::MOST_BYTES;
 
-// The reader after a part of the input, how many bytes of it were taken, and how many bytes of the room hold their answers.
-struct Answered {
+// How far the talk is: the input goes on, it has ended, or a read or a write has failed.
+enum Stage {
+    Listening,
+    AllHeard,
+    CutShort,
+}
+
+// Where the talk stands: the reader of the file; the bytes of the chunk that are read and not yet looked at, from `from` up to
+// `got`; the bytes of the room that are not yet written, from `done` up to `written`; and the stage.
+struct Talk {
     reader: Reader,
-    taken: usize,
+    from: usize,
+    got: usize,
+    done: usize,
     written: usize,
+    stage: Stage,
 }
 
-// The reader after a read, and whether the input goes on.
-struct Heard {
-    reader: Reader,
-    open: bool,
+// What is asked of the system next.
+enum Ask {
+    Write,
+    Read,
+    Stop,
 }
 
-// Takes bytes of a part of the input and gathers their answers in the room, as long as the room has space for one more answer.
-fn answer_part(
-    reader: Reader,
-    part: &[u8],
-    line: &mut [u8],
-    tails: &mut [u16],
-    heads: &mut [u16],
-    weights: &mut [u32],
-    forward: &mut [i32],
-    backward: &mut [i32],
-    room: &mut [u8],
-) -> Answered
-    requires { ⌜ Kept reader (lists (now line) (now tails) (now heads) (now weights) (now forward) (now backward)) ⌝ }
-    requires { ⌜ mostBytes ≤ length (now room) ⌝ }
-    ensures { λ r. ⌜ Answers (fileOf reader (lists (now (line .entry)) (now (tails .entry)) (now (heads .entry)) (now (weights .entry)) (now (forward .entry)) (now (backward .entry)))) (now (part .entry)) r (lists (now (line .exit)) (now (tails .exit)) (now (heads .exit)) (now (weights .exit)) (now (forward .exit)) (now (backward .exit))) (now (room .exit)) ⌝ }
-{
-    let mut here = reader;
-    let mut at: usize = 0;
-    let mut written: usize = 0;
-    while at < part.len() && ANSWER <= room.len() - written {
-        let step = district::take_byte(
-            here,
-            part[at],
-            line,
-            tails,
-            heads,
-            weights,
-            forward,
-            backward,
-            &mut room[written..],
-        );
-        here = step.reader;
-        at += 1;
-        written += step.written;
+// What the system did: it read so many bytes, found the end of the input, wrote so many bytes, was interrupted, would have had to
+// wait, or failed.
+enum Did {
+    Came(usize),
+    Ended,
+    Went(usize),
+    Interrupted,
+    WouldWait,
+    Failed,
+}
+
+// The talk before anything is read.
+fn begin() -> Talk {
+    Talk {
+        reader: district::start(false, 1),
+        from: 0,
+        got: 0,
+        done: 0,
+        written: 0,
+        stage: Stage::Listening,
     }
-    Answered {
-        reader: here,
-        taken: at,
+}
+
+// What is owed is written before anything else. Then the next bytes are read, unless there is nothing more to hear.
+fn asks(talk: Talk) -> Ask {
+    if talk.done < talk.written {
+        return Ask::Write;
+    }
+    let stage = talk.stage;
+    let Stage::Listening = stage else {
+        return Ask::Stop;
+    };
+    if talk.reader.going {
+        return Ask::Read;
+    }
+    Ask::Stop
+}
+
+// Why a call moved nothing, by the system's number of the error.
+fn unmoved(error: i32) -> Did {
+    if error == libc::EINTR {
+        return Did::Interrupted;
+    }
+    if error == libc::EAGAIN {
+        return Did::WouldWait;
+    }
+    Did::Failed
+}
+
+// What a read did that answered this: 0 is the end of the input.
+fn reading(got: isize, error: i32, chunk: &[u8]) -> Did {
+    if got < 0 {
+        return unmoved(error);
+    }
+    if got == 0 {
+        return Did::Ended;
+    }
+    Did::Came(io::count(got, chunk))
+}
+
+// What a write did that answered this: one that took nothing is tried again.
+fn writing(put: isize, error: i32, part: &[u8]) -> Did {
+    if put < 0 {
+        return unmoved(error);
+    }
+    if put == 0 {
+        return Did::WouldWait;
+    }
+    Did::Went(io::count(put, part))
+}
+
+// The end of the input: what it prints is owed.
+fn ended(talk: Talk, room: &mut [u8]) -> Talk {
+    let written = district::end_of_input(talk.reader, room);
+    Talk {
+        reader: talk.reader,
+        from: talk.from,
+        got: talk.got,
+        done: 0,
         written,
+        stage: Stage::AllHeard,
     }
 }
 
-// Answers all bytes of a chunk of the input: part by part, each part's answers written before the next part is taken.
-fn answer_chunk(
-    reader: Reader,
+// The talk after what the system did, before anything more is looked at. After a failure nothing is owed, and nothing more is
+// looked at.
+fn told(talk: Talk, did: Did, room: &mut [u8]) -> Talk {
+    match did {
+        Did::Came(n) => Talk {
+            reader: talk.reader,
+            from: 0,
+            got: n,
+            done: talk.done,
+            written: talk.written,
+            stage: talk.stage,
+        },
+        Did::Ended => ended(talk, room),
+        Did::Went(n) => Talk {
+            reader: talk.reader,
+            from: talk.from,
+            got: talk.got,
+            done: talk.done + n,
+            written: talk.written,
+            stage: talk.stage,
+        },
+        Did::Interrupted => talk,
+        Did::WouldWait => talk,
+        Did::Failed => Talk {
+            reader: talk.reader,
+            from: 0,
+            got: 0,
+            done: 0,
+            written: 0,
+            stage: Stage::CutShort,
+        },
+    }
+}
+
+// Looks at the bytes that are read, one after the other, up to the one that prints something. Where something is owed, or a
+// refusal has ended the file, no byte is looked at.
+fn look(
+    talk: Talk,
     chunk: &[u8],
     line: &mut [u8],
     tails: &mut [u16],
@@ -93,17 +176,16 @@ fn answer_chunk(
     forward: &mut [i32],
     backward: &mut [i32],
     room: &mut [u8],
-) -> Reader
-    requires { ⌜ Kept reader (lists (now line) (now tails) (now heads) (now weights) (now forward) (now backward)) ⌝ }
-    requires { ⌜ mostBytes ≤ length (now room) ⌝ }
-    ensures { λ r. ⌜ Passes (fileOf reader (lists (now (line .entry)) (now (tails .entry)) (now (heads .entry)) (now (weights .entry)) (now (forward .entry)) (now (backward .entry)))) (now (chunk .entry)) r (lists (now (line .exit)) (now (tails .exit)) (now (heads .exit)) (now (weights .exit)) (now (forward .exit)) (now (backward .exit))) ⌝ }
-{
-    let mut here = reader;
-    let mut from: usize = 0;
-    while from < chunk.len() {
-        let done = answer_part(
-            here,
-            &chunk[from..],
+) -> Talk {
+    let mut reader = talk.reader;
+    let mut from = talk.from;
+    let got = talk.got;
+    let mut done = talk.done;
+    let mut written = talk.written;
+    while from < got && done == written && reader.going {
+        let step = district::take_byte(
+            reader,
+            chunk[from],
             line,
             tails,
             heads,
@@ -112,79 +194,100 @@ fn answer_chunk(
             backward,
             room,
         );
-        here = done.reader;
-        from += done.taken;
-        let written = done.written;
-        io::write_all(STDOUT_FILENO, &room[..written]);
+        reader = step.reader;
+        from += 1;
+        done = 0;
+        written = step.written;
     }
-    here
-}
-
-// Reads once and answers what came. A read that fails counts as the end of the input.
-fn hear(
-    reader: Reader,
-    line: &mut [u8; DIGITS],
-    tails: &mut [u16; ARCS],
-    heads: &mut [u16; ARCS],
-    weights: &mut [u32; ARCS],
-    forward: &mut [i32; NODES],
-    backward: &mut [i32; NODES],
-    room: &mut [u8; ROOM],
-) -> Heard
-    requires { ⌜ Kept reader (lists (now line) (now tails) (now heads) (now weights) (now forward) (now backward)) ⌝ }
-    ensures { λ r. ⌜ Kept (r .reader) (lists (now (line .exit)) (now (tails .exit)) (now (heads .exit)) (now (weights .exit)) (now (forward .exit)) (now (backward .exit))) ⌝ }
-{
-    let mut chunk = [0u8; CHUNK];
-    let got = libc::read(STDIN_FILENO, &mut chunk);
-    if got <= 0 {
-        return Heard {
-            reader,
-            open: false,
-        };
-    }
-    let n = io::count(got, &chunk);
-    let after = answer_chunk(
+    Talk {
         reader,
-        &chunk[..n],
-        line,
-        tails,
-        heads,
-        weights,
-        forward,
-        backward,
-        room,
-    );
-    Heard {
-        reader: after,
-        open: true,
+        from,
+        got,
+        done,
+        written,
+        stage: talk.stage,
     }
 }
 
-// Writes what the end of input prints, which fits in the room of one answer.
-fn finish(reader: Reader)
-    requires { ⌜ Reached reader ⌝ }
-{
-    let mut room = [0u8; ANSWER];
-    let written = district::end_of_input(reader, &mut room);
-    io::write_all(STDOUT_FILENO, &room[..written]);
+// Waits for a thousandth of a second.
+fn pause() {
+    let asked = libc::types::timespec {
+        tv_sec: 0,
+        tv_nsec: 1000000,
+    };
+    let mut left = libc::types::timespec {
+        tv_sec: 0,
+        tv_nsec: 0,
+    };
+    libc::nanosleep(&asked, &mut left);
 }
 
-// Reads until the input ends or a refusal ends the file, and then gives what the end of input prints. A file ends at line
-// 4,294,967,295 at the latest, so it is over long before the count of reads is.
+// Reads once. A failure is told on standard error.
+fn hear(chunk: &mut [u8]) -> Did {
+    let got = libc::read(STDIN_FILENO, chunk);
+    let error = os::errno();
+    let did = reading(got, error, chunk);
+    if let Did::Failed = did {
+        os::fail(b"routeline: the file is cut short, standard input cannot be read");
+    }
+    did
+}
+
+// Writes once. A failure is told on standard error.
+fn say(part: &[u8]) -> Did {
+    let put = libc::write(STDOUT_FILENO, part);
+    let error = os::errno();
+    let did = writing(put, error, part);
+    if let Did::Failed = did {
+        os::fail(b"routeline: the answers are cut short, standard output cannot be written");
+    }
+    did
+}
+
+// What the program is and how it is called, for whoever gives it an argument.
+fn explain() {
+    io::write_all(
+        STDERR_FILENO,
+        b"routeline answers route queries: a district file on standard input, its answer lines on standard output.
+usage: routeline < FILE
+It takes no arguments. README.md says what a file holds and what the answers mean, docs/RULES.md gives the rules.
+",
+    );
+}
+
 fn main() {
+    if os::arg_count() > 1 {
+        explain();
+        return;
+    }
     let mut line = [0u8; DIGITS];
     let mut tails = [0u16; ARCS];
     let mut heads = [0u16; ARCS];
     let mut weights = [0u32; ARCS];
     let mut forward = [0i32; NODES];
     let mut backward = [0i32; NODES];
+    let mut chunk = [0u8; CHUNK];
     let mut room = [0u8; ROOM];
-    let mut reader = district::start(false, 1);
-    let mut open = true;
-    let mut reads = u64::MAX;
-    while reads > 0 && open && reader.going {
-        let heard = hear(
-            reader,
+    let mut talk = begin();
+    let mut asked = u64::MAX;
+    while asked > 0 {
+        let ask = asks(talk);
+        let did = match ask {
+            Ask::Write => {
+                let done = talk.done;
+                let written = talk.written;
+                say(&room[done..written])
+            }
+            Ask::Read => hear(&mut chunk),
+            Ask::Stop => return,
+        };
+        if let Did::WouldWait = did {
+            pause();
+        }
+        let next = told(talk, did, &mut room);
+        talk = look(
+            next,
+            &chunk,
             &mut line,
             &mut tails,
             &mut heads,
@@ -193,9 +296,10 @@ fn main() {
             &mut backward,
             &mut room,
         );
-        reader = heard.reader;
-        open = heard.open;
-        reads -= 1;
+        asked -= 1;
     }
-    finish(reader);
+    io::write_all(
+        STDERR_FILENO,
+        b"routeline: the answers are cut short, it has asked too often\n",
+    );
 }
