@@ -10,7 +10,6 @@
  *               all        the call is passed on as it is
  *               again      the last word only: the plan starts over
  *           After the last word, and without a plan, every call is passed on.
- *   CLOSED  a descriptor that is closed before the program starts
  *   SWAPS   a place and a text: when the program first writes to standard output, the bytes from that place on of what it
  *           last read are replaced by the text, in its own memory
  *   CALLS   a file that gets a line for each call: its name, its descriptor, the bytes asked for, and how many were moved or,
@@ -107,7 +106,11 @@ static void note(const char *text)
         return;
     }
     if (calls < 0) {
-        calls = open(file, O_WRONLY | O_APPEND | O_CREAT, 0666);
+        int low = open(file, O_WRONLY | O_APPEND);
+
+        /* out of the way of a standard descriptor that is closed, and must stay so */
+        calls = fcntl(low, F_DUPFD, 100);
+        close(low);
     }
     if (__write(calls, text, strlen(text)) < 0) {
         abort();
@@ -177,15 +180,9 @@ ssize_t write(int file, const void *from, size_t length)
 
 int nanosleep(const struct timespec *wanted, struct timespec *left)
 {
+    int result = __nanosleep(wanted, left);
+
     note("nanosleep\n");
-    return (int)gives("slept", -1, 0, __nanosleep(wanted, left), 0);
-}
-
-__attribute__((constructor)) static void close_first(void)
-{
-    const char *closed = getenv("CLOSED");
-
-    if (closed != NULL) {
-        close(atoi(closed));
-    }
+    errno = MEANS_NOTHING;
+    return result;
 }

@@ -70,11 +70,8 @@ class Routeline:
         self.preload = dict([preload.split("=", 1)])
 
     def start(self, words, faults, **files):
-        if faults is None:
-            settings = {}
-        else:
-            settings = {**self.preload, **faults}
-        return subprocess.Popen(words, stderr=subprocess.PIPE, env={**os.environ, "LC_ALL": "C", **settings}, **files)
+        settings = {**os.environ, "LC_ALL": "C", **self.preload, **faults}
+        return subprocess.Popen(words, stderr=subprocess.PIPE, env=settings, **files)
 
     def end(self, process):
         """Waits for the end of a program; what it still prints, if its output is a pipe of ours, and its words."""
@@ -103,54 +100,72 @@ class Routeline:
             return Ran(printed, said, calls_of(calls), taken)
 
     @contextlib.contextmanager
-    def talk(self, faults=None):
-        """A talk with the program while its input is open."""
-        process = self.start([self.starter], faults, stdin=subprocess.PIPE, stdout=subprocess.PIPE, bufsize=0)
-        try:
-            yield Talk(self, process)
-        finally:
-            process.kill()
-            process.communicate()
+    def talk(self, unblocked=None):
+        """A talk with the program while its input is open. Where the program reads or writes (0 or 1) may be unblocked: it
+        is then told to try again where it would have had to wait."""
+        with tempfile.TemporaryDirectory() as folder:
+            calls = Path(folder, "calls")
+            calls.touch()
+            heard, to = os.pipe()
+            by, said = os.pipe()
+            if unblocked is not None:
+                os.set_blocking((heard, said)[unblocked], False)
+            with open(to, "wb", buffering=0) as to, open(by, "rb", buffering=0) as by:
+                with self.start([self.starter], {"CALLS": str(calls)}, stdin=heard, stdout=said) as process:
+                    os.close(heard)
+                    os.close(said)
+                    try:
+                        yield Talk(self, process, to, by, calls)
+                    finally:
+                        process.kill()
 
 
 class Talk:
-    def __init__(self, routeline, process):
-        self.routeline, self.process = routeline, process
+    def __init__(self, routeline, process, to, by, calls):
+        self.routeline, self.process, self.to, self.by, self.calls = routeline, process, to, by, calls
 
     def send(self, text):
         """Sends bytes by one write."""
-        if self.process.stdin.write(text.encode("latin-1")) != len(text):
+        if self.to.write(text.encode("latin-1")) != len(text):
             raise Wrong("the pipe did not take the bytes in one write")
 
     def hear(self, wanted):
         """The program prints these bytes next, while its input is open."""
         got = ""
-        while len(got) < len(wanted) and select.select([self.process.stdout], [], [], self.routeline.patience)[0]:
-            more = os.read(self.process.stdout.fileno(), len(wanted) - len(got))
+        while len(got) < len(wanted) and select.select([self.by], [], [], self.routeline.patience)[0]:
+            more = self.by.read(len(wanted) - len(got))
             if not more:
                 break
             got += more.decode("latin-1")
         same("answered while the input is open", got, wanted)
+
+    def told_to_wait(self, name):
+        """Waits until a call of this name has been told that it would have to wait."""
+        last = time.monotonic() + self.routeline.patience
+        while not any(call.name == name and call.moved == -errno.EAGAIN for call in calls_of(self.calls)):
+            if time.monotonic() > last or self.process.poll() is not None:
+                raise Wrong(f"it makes no {name} that would have to wait")
+            time.sleep(0.01)
 
     def ends(self):
         """The program ends by itself, though its input is open, and prints nothing more."""
         try:
             self.process.wait(self.routeline.patience)
         except subprocess.TimeoutExpired:
-            raise Wrong("still running though nothing can come that it would answer") from None
-        same("printed at the end", self.process.stdout.read(), b"")
+            raise Wrong("still running though it has nothing more to answer") from None
+        same("printed at the end", self.by.read(), b"")
         same("said", self.process.stderr.read(), b"")
 
     def over(self):
         """The input ends, and the program prints nothing more."""
-        self.process.stdin.close()
+        self.to.close()
         self.ends()
 
 
 def calls_of(file):
     """The calls that faults.c noted in a file."""
     calls = []
-    for line in file.read_text().splitlines():
+    for line in file.read_text().split("\n")[:-1]:
         name, *numbers = line.split()
         calls.append(Call(name, *map(int, numbers)))
     return calls
@@ -170,6 +185,13 @@ def cut(ran, printed, words, error):
     moves = [call for call in ran.calls if call.file in (0, 1)]
     failed = [call for call in moves if call.moved == -error]
     same("calls that failed", failed, moves[-1:])
+
+
+def exactly(ran, *answers, then=()):
+    """All answers were printed, by one read, one write an answer and, after that, only the calls that are named."""
+    whole(ran, "".join(answers))
+    moves = [(call.name, call.file, call.moved) for call in ran.calls]
+    same("calls", moves, [("read", 0, ran.taken), *(("write", 1, len(answer)) for answer in answers), *then])
 
 
 # ---- answers while the input is open
@@ -196,16 +218,19 @@ def _(routeline):
 
 @run("a file refusal ends the program while its input is open")
 def _(routeline):
+    refused = "0100050005\n"
+    exactly(routeline.ran(D5 + refused + QUERIES[0]), P1, "FF0B0000000D\n")
     with routeline.talk() as talk:
         talk.send(D5)
         talk.hear(P1)
-        talk.send("0100050005\n")
+        talk.send(refused)
         talk.hear("FF0B0000000D\n")
         talk.ends()
 
 
 @run("the 268th digit of a line is refused at once")
 def _(routeline):
+    exactly(routeline.ran(LONGEST + "0"), "FF0A00000001\n")
     with routeline.talk() as talk:
         talk.send(LONGEST + "0")
         talk.hear("FF0A00000001\n")
@@ -230,20 +255,14 @@ def _(routeline):
 
 @run("a query is looked at after the answer before it is written")
 def _(routeline):
-    # The second query's digits are replaced, in the program's own memory, while it writes the first answer.
-    text = district5(QUERIES[0], QUERIES[3])
-    other = query(2, 0, "01")
-    place = len(text) - len(QUERIES[3])
-    whole(routeline.ran(text, SWAPS=f"{place} {other}"), P1 + P4)
+    # The second query's digits become another's, in the program's own memory, while it writes the first answer.
+    place = len(D5)
+    whole(routeline.ran(D5 + QUERIES[0], SWAPS=f"{place} {QUERIES[3]}"), P1 + P4)
 
 
 @run("undisturbed: one write an answer, and no other call")
 def _(routeline):
-    ran = routeline.ran(FOUR)
-    whole(ran, "".join(ANSWERS))
-    asked = ran.calls[0].asked
-    writes = [Call("write", 1, len(answer), len(answer)) for answer in ANSWERS]
-    same("calls", ran.calls, [Call("read", 0, asked, len(FOUR)), *writes, Call("read", 0, asked, 0)])
+    exactly(routeline.ran(FOUR), *ANSWERS, then=[("read", 0, 0)])
 
 
 # ---- calls that are tried again
@@ -272,7 +291,20 @@ def _(routeline):
 
 @run("a slow reader of a pipe that does not block gets all lines")
 def _(routeline):
-    pass
+    with routeline.talk(unblocked=1) as talk:
+        talk.send(TO_QUERY + QUERIES[0] * 3000)
+        talk.told_to_wait("write")
+        talk.hear(P1 * 3000)
+        talk.over()
+
+
+@run("an input pipe that does not block is waited for")
+def _(routeline):
+    with routeline.talk(unblocked=0) as talk:
+        talk.told_to_wait("read")
+        talk.send(FOUR)
+        talk.hear("".join(ANSWERS))
+        talk.over()
 
 
 # ---- calls that fail
