@@ -3,19 +3,19 @@
  * C library's read, write and nanosleep. What goes wrong is a plan, given in the environment, so a fault that is rare on a
  * real system comes at the same call in every run.
  *
- *   READS   what the reads of standard input do, in order, a word a call
- *   WRITES  the same of the writes to standard output
+ *   READS   what the reads of standard input do, in order, a word a call:
  *               a number   at most so many bytes are moved
  *               an error   EINTR, EAGAIN, EIO or ENOSPC: the call fails with it and nothing is moved
  *               all        the call is passed on as it is
  *               again      the last word only: the plan starts over
  *           After the last word, and without a plan, every call is passed on.
+ *   WRITES  the same of the writes to standard output
  *   SWAPS   a place and a text: when the program first writes to standard output, the bytes from that place on of what it
  *           last read are replaced by the text, in its own memory
- *   CALLS   a file that gets a line for each call: its name, its descriptor, the bytes asked for, and how many were moved or,
- *           below zero, the error; for nanosleep its name alone
+ *   CALLS   a file that gets a line for each call: its name, its descriptor, how many bytes it asked for, and how many were
+ *           moved or, below zero, the error. A pause has the descriptor -1 and asks for nanoseconds.
  *
- * A call that succeeds leaves an errno that means nothing, as the system may.
+ * A call that succeeds leaves an errno that means nothing, as the system may. A plan that cannot be read ends the program.
  */
 #include <errno.h>
 #include <fcntl.h>
@@ -25,111 +25,105 @@
 #include <time.h>
 #include <unistd.h>
 
-/* The C library's own calls, under the names that are not stood between. */
+/* The C library's own calls, under names of theirs that are not stood between. */
 ssize_t __read(int file, void *to, size_t most);
 ssize_t __write(int file, const void *from, size_t length);
 int __nanosleep(const struct timespec *wanted, struct timespec *left);
 
-/* An errno that no call here gives: what it says after a success is nothing. */
+/* What errno says after a success: an error that none of these calls gives. */
 #define MEANS_NOTHING EDOM
 
-static char *heard;
-static ssize_t heard_length;
-static int calls = -1;
-
+/* A plan: the variable that has it, and the words of it that are not yet used. */
 struct plan {
     const char *name;
-    const char *at;
+    const char *rest;
 };
 
-static struct plan reads = {"READS", NULL};
-static struct plan writes = {"WRITES", NULL};
+/* The length of the longest word, with its end. */
+#define WORD 16
 
-/* Takes the next word of a plan into a room of 16 bytes, or "all" where there is none. */
-static void next_word(struct plan *plan, char *word)
+/* Takes the next word of a plan; "all" where there is none. */
+static void next_word(struct plan *plan, char word[WORD])
 {
     const char *whole = getenv(plan->name);
     size_t length;
 
-    if (whole != NULL && plan->at == NULL) {
-        plan->at = whole;
+    if (whole == NULL) {
+        whole = "";
     }
-    strcpy(word, "all");
-    if (whole == NULL || *plan->at == '\0') {
-        return;
+    if (plan->rest == NULL || strcmp(plan->rest, "again") == 0) {
+        plan->rest = whole;
     }
-    if (strcmp(plan->at, "again") == 0) {
-        plan->at = whole;
-    }
-    length = strcspn(plan->at, " ");
-    if (length >= 16) {
+    length = strcspn(plan->rest, " ");
+    if (length >= WORD) {
         abort();
     }
-    memcpy(word, plan->at, length);
+    memcpy(word, plan->rest, length);
     word[length] = '\0';
-    plan->at += length;
-    plan->at += strspn(plan->at, " ");
+    plan->rest += length;
+    plan->rest += strspn(plan->rest, " ");
+    if (length == 0) {
+        strcpy(word, "all");
+    }
 }
 
-/* What a plan says of this call: an error, and then nothing is moved, or 0 and how many bytes may be moved at most. */
+/* What a plan says of this call: an error, or 0 and how many bytes may be moved at most. */
 static int planned(struct plan *plan, size_t *most)
 {
     static const struct {
         const char *name;
-        int error;
+        int number;
     } errors[] = {{"EINTR", EINTR}, {"EAGAIN", EAGAIN}, {"EIO", EIO}, {"ENOSPC", ENOSPC}};
-    char word[16];
+    char word[WORD];
     size_t number;
     char *end;
 
     next_word(plan, word);
     for (size_t i = 0; i < sizeof errors / sizeof errors[0]; i++) {
         if (strcmp(word, errors[i].name) == 0) {
-            return errors[i].error;
+            return errors[i].number;
         }
     }
-    if (strcmp(word, "all") != 0) {
-        number = strtoul(word, &end, 10);
-        if (end == word || *end != '\0') {
-            abort();
-        }
-        *most = number < *most ? number : *most;
+    if (strcmp(word, "all") == 0) {
+        return 0;
+    }
+    number = strtoul(word, &end, 10);
+    if (end == word || *end != '\0') {
+        abort();
+    }
+    if (number < *most) {
+        *most = number;
     }
     return 0;
 }
 
-static void note(const char *text)
+/* Notes a call and gives the program what came of it: how many bytes were moved, or the error. */
+static ssize_t gives(const char *name, int file, size_t asked, ssize_t moved, int error)
 {
-    const char *file = getenv("CALLS");
+    static int calls = -1;
+    const char *log = getenv("CALLS");
 
-    if (file == NULL) {
-        return;
-    }
-    if (calls < 0) {
-        int low = open(file, O_WRONLY | O_APPEND);
+    if (log != NULL && calls < 0) {
+        int low = open(log, O_WRONLY | O_APPEND);
 
         /* out of the way of a standard descriptor that is closed, and must stay so */
         calls = fcntl(low, F_DUPFD, 100);
         close(low);
     }
-    if (__write(calls, text, strlen(text)) < 0) {
+    if (log != NULL && dprintf(calls, "%s %d %zu %zd\n", name, file, asked, error != 0 ? -error : moved) < 0) {
         abort();
     }
-}
-
-/* Notes a call and gives the program what came of it. */
-static ssize_t gives(const char *name, int file, size_t asked, ssize_t moved, int error)
-{
-    char text[80];
-
-    snprintf(text, sizeof text, "%s %d %zu %ld\n", name, file, asked, error != 0 ? -(long)error : (long)moved);
-    note(text);
     errno = error != 0 ? error : MEANS_NOTHING;
     return error != 0 ? -1 : moved;
 }
 
+/* What the program last read. */
+static char *heard;
+static size_t heard_length;
+
 ssize_t read(int file, void *to, size_t most)
 {
+    static struct plan reads = {"READS", NULL};
     size_t asked = most;
     int error = file == STDIN_FILENO ? planned(&reads, &most) : 0;
     ssize_t moved = error != 0 ? -1 : __read(file, to, most);
@@ -139,7 +133,7 @@ ssize_t read(int file, void *to, size_t most)
     }
     if (moved > 0) {
         heard = to;
-        heard_length = moved;
+        heard_length = (size_t)moved;
     }
     return gives("read", file, asked, moved, error);
 }
@@ -147,24 +141,26 @@ ssize_t read(int file, void *to, size_t most)
 /* Replaces bytes of what the program last read, once. */
 static void swap(void)
 {
-    const char *text = getenv("SWAPS");
-    char *end;
+    static int swapped;
+    const char *swaps = getenv("SWAPS");
     size_t place;
+    char *text;
 
-    if (text == NULL || heard == NULL) {
+    if (swaps == NULL || swapped) {
         return;
     }
-    place = strtoul(text, &end, 10);
-    text = end + strspn(end, " ");
-    if (place + strlen(text) > (size_t)heard_length) {
+    place = strtoul(swaps, &text, 10);
+    text += strspn(text, " ");
+    if (place + strlen(text) > heard_length) {
         abort();
     }
     memcpy(heard + place, text, strlen(text));
-    heard = NULL;
+    swapped = 1;
 }
 
 ssize_t write(int file, const void *from, size_t length)
 {
+    static struct plan writes = {"WRITES", NULL};
     size_t asked = length;
     int error = file == STDOUT_FILENO ? planned(&writes, &length) : 0;
     ssize_t moved = error != 0 ? -1 : __write(file, from, length);
@@ -180,9 +176,8 @@ ssize_t write(int file, const void *from, size_t length)
 
 int nanosleep(const struct timespec *wanted, struct timespec *left)
 {
-    int result = __nanosleep(wanted, left);
+    size_t nanoseconds = (size_t)wanted->tv_sec * 1000000000 + (size_t)wanted->tv_nsec;
+    int error = __nanosleep(wanted, left) < 0 ? errno : 0;
 
-    note("nanosleep\n");
-    errno = MEANS_NOTHING;
-    return result;
+    return (int)gives("nanosleep", -1, nanoseconds, 0, error);
 }
