@@ -1,2 +1,2 @@
-pub mod Part
-pub mod PartLaws
+pub mod Talk
+pub mod Speaker
