@@ -1,2 +1,3 @@
-pub mod Part
-pub mod PartLaws
+pub mod Talk
+pub mod Speaker
+pub mod TalkLaws

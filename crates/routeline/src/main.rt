@@ -1,8 +1,14 @@
 // Program `routeline`: a district file on standard input, its answer lines on standard output (document 01, "District frames").
 // The program is a talk with the system. What it asks next, and what the system's answer changes, is decided by functions over
-// numbers and lists, each under a contract (specs/Talk.antt): an answer is written, whole, before a further byte is looked at,
-// and nothing is read while something is owed. What no contract can reach is small and stands at the end: `hear` and `say`,
-// which call the system, `pause`, the words for people, and `main`. The memory is fixed: the lists of `main`.
+// numbers and lists, each under a contract (specs/Talk.antt): nothing is read while something is owed, and an answer is written
+// before a further byte is looked at. What no contract can reach is small and stands at the end: `hear` and `say`, which call
+// the system, the words for people, and `main`. The memory is fixed: the lists of `main`.
+ghost use mathlib.Core.Path.{_≡_};
+ghost use lib.ListN.{length};
+ghost use lib.Seq.{slice};
+ghost use Rattle.district.specs.Reader.{lists, Reached};
+ghost use Rattle.routeline.specs.Talk.{look as talkLook, after as talkAfter};
+ghost use Rattle.routeline.specs.Speaker.{talkOf, OwedWithin, Sits, Stands, startSpeaker, eventOf, unmovedBy, readingOf, writingOf, CameWithin, WentWithin, ReadDid, WriteDid, AsksAs, Answers, TellsAs};
 use district::Reader;
 use libc::STDERR_FILENO;
 use libc::STDIN_FILENO;
@@ -30,7 +36,7 @@ enum Stage {
 
 // Where the talk stands: the reader of the file; the bytes of the chunk that are read and not yet looked at, from `from` up to
 // `got`; the bytes of the room that are not yet written, from `done` up to `written`; and the stage.
-struct Talk {
+struct Speaker {
     reader: Reader,
     from: usize,
     got: usize,
@@ -57,35 +63,54 @@ enum Did {
     Failed,
 }
 
-// The talk before anything is read.
-fn begin() -> Talk {
-    Talk {
-        reader: district::start(false, 1),
+// The talk before anything is read: the file may have many queries, and its first line is line 1.
+fn begin() -> Speaker
+    ensures { λ r. ⌜ r ≡ startSpeaker ⌝ }
+{
+    let reader = district::start(false, 1);
+    let stage = Stage::Listening;
+    Speaker {
+        reader,
         from: 0,
         got: 0,
         done: 0,
         written: 0,
-        stage: Stage::Listening,
+        stage,
     }
 }
 
 // What is owed is written before anything else. Then the next bytes are read, unless there is nothing more to hear.
-fn asks(talk: Talk) -> Ask {
-    if talk.done < talk.written {
+fn asks(speaker: Speaker) -> Ask
+    ensures { λ r. ⌜ AsksAs speaker r ⌝ }
+{
+    if speaker.done < speaker.written {
         return Ask::Write;
     }
-    let stage = talk.stage;
+    let stage = speaker.stage;
     let Stage::Listening = stage else {
         return Ask::Stop;
     };
-    if talk.reader.going {
+    let reader = speaker.reader;
+    if reader.going {
         return Ask::Read;
     }
     Ask::Stop
 }
 
+// The bytes that are owed.
+fn owed(speaker: Speaker, room: &[u8]) -> &[u8]
+    requires { ⌜ OwedWithin speaker (now room) ⌝ }
+    ensures { λ r. ⌜ now r ≡ slice (speaker .done) (speaker .written) (now (room .entry)) ⌝ }
+{
+    let done = speaker.done;
+    let written = speaker.written;
+    &room[done..written]
+}
+
 // Why a call moved nothing, by the system's number of the error.
-fn unmoved(error: i32) -> Did {
+fn unmoved(error: i32) -> Did
+    ensures { λ r. ⌜ r ≡ unmovedBy error ⌝ }
+{
     if error == libc::EINTR {
         return Did::Interrupted;
     }
@@ -96,78 +121,98 @@ fn unmoved(error: i32) -> Did {
 }
 
 // What a read did that answered this: 0 is the end of the input.
-fn reading(got: isize, error: i32, chunk: &[u8]) -> Did {
+fn reading(got: isize, error: i32, chunk: &[u8]) -> Did
+    ensures { λ r. ⌜ r ≡ readingOf got error (length (now (chunk .entry))) ⌝ }
+{
     if got < 0 {
         return unmoved(error);
     }
     if got == 0 {
         return Did::Ended;
     }
-    Did::Came(io::count(got, chunk))
+    let n = io::count(got, chunk);
+    Did::Came(n)
 }
 
 // What a write did that answered this: one that took nothing is tried again.
-fn writing(put: isize, error: i32, part: &[u8]) -> Did {
+fn writing(put: isize, error: i32, part: &[u8]) -> Did
+    ensures { λ r. ⌜ r ≡ writingOf put error (length (now (part .entry))) ⌝ }
+{
     if put < 0 {
         return unmoved(error);
     }
     if put == 0 {
         return Did::WouldWait;
     }
-    Did::Went(io::count(put, part))
+    let n = io::count(put, part);
+    Did::Went(n)
 }
 
 // The end of the input: what it prints is owed.
-fn ended(talk: Talk, room: &mut [u8]) -> Talk {
-    let written = district::end_of_input(talk.reader, room);
-    Talk {
-        reader: talk.reader,
-        from: talk.from,
-        got: talk.got,
+fn ended(speaker: Speaker, room: &mut [u8]) -> Speaker
+    requires { ⌜ Reached (speaker .reader) ⌝ }
+    ensures { λ r. ⌜ TellsAs speaker Did.Ended r (now (room .entry)) (now (room .exit)) ⌝ }
+{
+    let reader = speaker.reader;
+    let written = district::end_of_input(reader, room);
+    let stage = Stage::AllHeard;
+    Speaker {
+        reader,
+        from: speaker.from,
+        got: speaker.got,
         done: 0,
         written,
-        stage: Stage::AllHeard,
+        stage,
     }
 }
 
-// The talk after what the system did, before anything more is looked at. After a failure nothing is owed, and nothing more is
-// looked at.
-fn told(talk: Talk, did: Did, room: &mut [u8]) -> Talk {
+// The speaker after what the system did, before anything more is looked at. After a failure nothing is owed, and nothing is left
+// to look at.
+fn told(speaker: Speaker, did: Did, room: &mut [u8]) -> Speaker
+    requires { ⌜ Reached (speaker .reader) ⌝ }
+    requires { ⌜ WentWithin speaker did ⌝ }
+    ensures { λ r. ⌜ TellsAs speaker did r (now (room .entry)) (now (room .exit)) ⌝ }
+{
+    let reader = speaker.reader;
+    let stage = speaker.stage;
     match did {
-        Did::Came(n) => Talk {
-            reader: talk.reader,
+        Did::Came(n) => Speaker {
+            reader,
             from: 0,
             got: n,
-            done: talk.done,
-            written: talk.written,
-            stage: talk.stage,
+            done: speaker.done,
+            written: speaker.written,
+            stage,
         },
-        Did::Ended => ended(talk, room),
-        Did::Went(n) => Talk {
-            reader: talk.reader,
-            from: talk.from,
-            got: talk.got,
-            done: talk.done + n,
-            written: talk.written,
-            stage: talk.stage,
+        Did::Ended => ended(speaker, room),
+        Did::Went(n) => Speaker {
+            reader,
+            from: speaker.from,
+            got: speaker.got,
+            done: speaker.done + n,
+            written: speaker.written,
+            stage,
         },
-        Did::Interrupted => talk,
-        Did::WouldWait => talk,
-        Did::Failed => Talk {
-            reader: talk.reader,
-            from: 0,
-            got: 0,
-            done: 0,
-            written: 0,
-            stage: Stage::CutShort,
-        },
+        Did::Interrupted => speaker,
+        Did::WouldWait => speaker,
+        Did::Failed => {
+            let failed = Stage::CutShort;
+            Speaker {
+                reader,
+                from: 0,
+                got: 0,
+                done: 0,
+                written: 0,
+                stage: failed,
+            }
+        }
     }
 }
 
 // Looks at the bytes that are read, one after the other, up to the one that prints something. Where something is owed, or a
 // refusal has ended the file, no byte is looked at.
 fn look(
-    talk: Talk,
+    speaker: Speaker,
     chunk: &[u8],
     line: &mut [u8],
     tails: &mut [u16],
@@ -176,12 +221,15 @@ fn look(
     forward: &mut [i32],
     backward: &mut [i32],
     room: &mut [u8],
-) -> Talk {
-    let mut reader = talk.reader;
-    let mut from = talk.from;
-    let got = talk.got;
-    let mut done = talk.done;
-    let mut written = talk.written;
+) -> Speaker
+    requires { ⌜ Sits speaker (lists (now line) (now tails) (now heads) (now weights) (now forward) (now backward)) (now chunk) (now room) ⌝ }
+    ensures { λ r. ⌜ Stands (talkLook (talkOf speaker (lists (now (line .entry)) (now (tails .entry)) (now (heads .entry)) (now (weights .entry)) (now (forward .entry)) (now (backward .entry))) (now (chunk .entry)) (now (room .entry)))) r (lists (now (line .exit)) (now (tails .exit)) (now (heads .exit)) (now (weights .exit)) (now (forward .exit)) (now (backward .exit))) (now (chunk .entry)) (now (room .exit)) ⌝ }
+{
+    let mut reader = speaker.reader;
+    let mut from = speaker.from;
+    let got = speaker.got;
+    let mut done = speaker.done;
+    let mut written = speaker.written;
     while from < got && done == written && reader.going {
         let step = district::take_byte(
             reader,
@@ -199,49 +247,104 @@ fn look(
         done = 0;
         written = step.written;
     }
-    Talk {
+    let stage = speaker.stage;
+    Speaker {
         reader,
         from,
         got,
         done,
         written,
-        stage: talk.stage,
+        stage,
     }
 }
 
-// Waits for a thousandth of a second.
-fn pause() {
-    let asked = libc::types::timespec {
-        tv_sec: 0,
-        tv_nsec: 1000000,
-    };
-    let mut left = libc::types::timespec {
-        tv_sec: 0,
-        tv_nsec: 0,
-    };
-    libc::nanosleep(&asked, &mut left);
+// The speaker after what the system did.
+fn after(
+    speaker: Speaker,
+    did: Did,
+    chunk: &[u8],
+    line: &mut [u8],
+    tails: &mut [u16],
+    heads: &mut [u16],
+    weights: &mut [u32],
+    forward: &mut [i32],
+    backward: &mut [i32],
+    room: &mut [u8],
+) -> Speaker
+    requires { ⌜ Sits speaker (lists (now line) (now tails) (now heads) (now weights) (now forward) (now backward)) (now chunk) (now room) ⌝ }
+    requires { ⌜ CameWithin did (length (now chunk)) ⌝ }
+    requires { ⌜ WentWithin speaker did ⌝ }
+    ensures { λ r. ⌜ Stands (talkAfter (talkOf speaker (lists (now (line .entry)) (now (tails .entry)) (now (heads .entry)) (now (weights .entry)) (now (forward .entry)) (now (backward .entry))) (now (chunk .entry)) (now (room .entry))) (eventOf did (now (chunk .entry)))) r (lists (now (line .exit)) (now (tails .exit)) (now (heads .exit)) (now (weights .exit)) (now (forward .exit)) (now (backward .exit))) (now (chunk .entry)) (now (room .exit)) ⌝ }
+{
+    let next = told(speaker, did, room);
+    look(
+        next,
+        chunk,
+        line,
+        tails,
+        heads,
+        weights,
+        forward,
+        backward,
+        room,
+    )
 }
 
-// Reads once. A failure is told on standard error.
-fn hear(chunk: &mut [u8]) -> Did {
+// Waits a little before a call is made again that would have had to wait.
+fn pause() {
+    libc::sched_yield();
+}
+
+// A call that would have had to wait is made again after a pause; one that failed is told on standard error, with the system's
+// reason.
+fn tell(did: Did, words: &[u8]) {
+    if let Did::Failed = did {
+        os::fail(words);
+        return;
+    }
+    if let Did::WouldWait = did {
+        pause();
+    }
+}
+
+// Reads once.
+fn hear(chunk: &mut [u8]) -> Did
+    ensures { λ r. ⌜ ReadDid (length (now (chunk .exit))) r ⌝ }
+{
     let got = libc::read(STDIN_FILENO, chunk);
     let error = os::errno();
     let did = reading(got, error, chunk);
-    if let Did::Failed = did {
-        os::fail(b"routeline: the file is cut short, standard input cannot be read");
-    }
+    tell(
+        did,
+        b"routeline: the file is cut short, standard input cannot be read",
+    );
     did
 }
 
-// Writes once. A failure is told on standard error.
-fn say(part: &[u8]) -> Did {
+// Writes once.
+fn say(part: &[u8]) -> Did
+    ensures { λ r. ⌜ WriteDid (length (now (part .entry))) r ⌝ }
+{
     let put = libc::write(STDOUT_FILENO, part);
     let error = os::errno();
     let did = writing(put, error, part);
-    if let Did::Failed = did {
-        os::fail(b"routeline: the answers are cut short, standard output cannot be written");
-    }
+    tell(
+        did,
+        b"routeline: the answers are cut short, standard output cannot be written",
+    );
     did
+}
+
+// Asks the system for what the talk asks, which is not to stop.
+fn ask_system(ask: Ask, speaker: Speaker, chunk: &mut [u8], room: &[u8]) -> Did
+    requires { ⌜ OwedWithin speaker (now room) ⌝ }
+    ensures { λ r. ⌜ Answers ask speaker r (now (chunk .entry)) (now (chunk .exit)) ⌝ }
+{
+    let Ask::Write = ask else {
+        return hear(chunk);
+    };
+    let part = owed(speaker, room);
+    say(part)
 }
 
 // What the program is and how it is called, for whoever gives it an argument.
@@ -255,6 +358,7 @@ It takes no arguments. README.md says what a file holds and what the answers mea
     );
 }
 
+// Asks until the talk asks to stop. The count of asks is none that a talk can use up; were it used up, that would be told.
 fn main() {
     if os::arg_count() > 1 {
         explain();
@@ -268,25 +372,17 @@ fn main() {
     let mut backward = [0i32; NODES];
     let mut chunk = [0u8; CHUNK];
     let mut room = [0u8; ROOM];
-    let mut talk = begin();
-    let mut asked = u64::MAX;
-    while asked > 0 {
-        let ask = asks(talk);
-        let did = match ask {
-            Ask::Write => {
-                let done = talk.done;
-                let written = talk.written;
-                say(&room[done..written])
-            }
-            Ask::Read => hear(&mut chunk),
-            Ask::Stop => return,
-        };
-        if let Did::WouldWait = did {
-            pause();
+    let mut speaker = begin();
+    let mut left = u64::MAX;
+    while left > 0 {
+        let ask = asks(speaker);
+        if let Ask::Stop = ask {
+            return;
         }
-        let next = told(talk, did, &mut room);
-        talk = look(
-            next,
+        let did = ask_system(ask, speaker, &mut chunk, &room);
+        speaker = after(
+            speaker,
+            did,
             &chunk,
             &mut line,
             &mut tails,
@@ -296,10 +392,10 @@ fn main() {
             &mut backward,
             &mut room,
         );
-        asked -= 1;
+        left -= 1;
     }
     io::write_all(
         STDERR_FILENO,
-        b"routeline: the answers are cut short, it has asked too often\n",
+        b"routeline: the answers are cut short, the system was asked too often\n",
     );
 }
