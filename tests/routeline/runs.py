@@ -33,9 +33,6 @@ UNWRITTEN = "routeline: the answers are cut short, standard output cannot be wri
 # What is said to whoever gives an argument: what the program is, how it is called, where to read more.
 EXPLAINED = ["routeline answers route queries", "routeline < FILE", "README.md"]
 
-# The nanoseconds of a pause.
-PAUSE = 1_000_000
-
 RUNS = {}
 
 
@@ -43,8 +40,9 @@ class Wrong(Exception):
     """What a run found wrong, in words."""
 
 
-# A call of the system, as faults.c notes it.
+# A call of the system, as faults.c notes it, and the one that is a pause.
 Call = namedtuple("Call", "name file asked moved")
+PAUSE = Call("sched_yield", -1, 0, 0)
 
 # What a run of the program left: its output, its words, its calls, and how many bytes of its input it took.
 Ran = namedtuple("Ran", "printed words calls taken")
@@ -296,7 +294,7 @@ def _(routeline):
     met(ran, -errno.EAGAIN)
     after = [then for call, then in zip(ran.calls, ran.calls[1:])
              if call.moved == -errno.EAGAIN or call.name == "write" and call.moved == 0]
-    same("after each", after, [Call("nanosleep", -1, PAUSE, 0)] * len(after))
+    same("after each", after, [PAUSE] * len(after))
 
 
 @run("a slow reader of a pipe that does not block gets all lines")
