@@ -31,9 +31,9 @@ long write(int file, const void *from, size_t length)
     return call(1, file, from, length);
 }
 
-int nanosleep(const void *asked, void *left)
+int sched_yield(void)
 {
-    return (int)call(35, (long)asked, left, 0);
+    return (int)call(24, 0, NULL, 0);
 }
 
 /* What the kit's library `os` has in C. No argument but the program's name is ever given, and an error's words are left out. */
