@@ -110,6 +110,7 @@ class Routeline:
             calls.touch()
             stdin, to = os.pipe()
             by, stdout = os.pipe()
+            os.set_blocking(to, False)
             if unblocked is not None:
                 os.set_blocking((stdin, stdout)[unblocked], False)
             with open(to, "wb", buffering=0) as to, open(by, "rb", buffering=0) as by:
@@ -129,9 +130,9 @@ class Talk:
         self.process, self.to, self.by, self.calls, self.patience = process, to, by, calls, patience
 
     def send(self, text):
-        """Sends bytes by one write."""
+        """Sends bytes by one write, which the pipe takes whole."""
         if self.to.write(text.encode("latin-1")) != len(text):
-            raise Wrong("the pipe did not take the bytes in one write")
+            raise Wrong("the pipe to the program is full")
 
     def hear(self, wanted):
         """The program prints these bytes next, while its input is open."""

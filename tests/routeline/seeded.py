@@ -41,13 +41,14 @@ def says(edit):
 
 def put_in(edit, crate):
     """Makes the one replacement of an edit in a copy of the crate. What is replaced stands there once."""
-    for file, old, new in zip(lines(edit, "file: "), lines(edit, "old: "), lines(edit, "new:")):
-        text = (crate / file).read_text()
-        if text.count(old) != 1:
-            raise Unusable(f"its old text stands {text.count(old)} times in {file}")
-        (crate / file).write_text(text.replace(old, new.removeprefix(" ")))
-        return
-    raise Unusable("it replaces nothing")
+    parts = [lines(edit, start) for start in ("file: ", "old: ", "new:")]
+    if [len(part) for part in parts] != [1, 1, 1]:
+        raise Unusable("it is not one replacement")
+    [file], [old], [new] = parts
+    text = (crate / file).read_text()
+    if text.count(old) != 1:
+        raise Unusable(f"its old text stands {text.count(old)} times in {file}")
+    (crate / file).write_text(text.replace(old, new.removeprefix(" ")))
 
 
 def beside(folder, source, *own):
