@@ -1,3 +1,4 @@
 pub mod Talk
-pub mod Speaker
 pub mod TalkLaws
+pub mod Speaker
+pub mod SpeakerLaws

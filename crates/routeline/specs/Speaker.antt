@@ -8,7 +8,9 @@ use lib.Dec.{eqb}
 use lib.IntN.{ℤ, pos, negsuc}
 use lib.ListN.{length, take}
 use lib.Seq.{slice}
+use Rattle.district.specs.declared.Reader.{Reader}
 use Rattle.district.specs.Reader.{Lists, fileOf, Kept, startReader, mostBytes}
+use Rattle.routeline.specs.declared.Stage.{Stage}
 use Rattle.routeline.specs.declared.Stage.the-variants.{Listening}
 use Rattle.routeline.specs.declared.Ask.{Ask}
 use Rattle.routeline.specs.declared.Ask.the-variants.{Write, Read}
@@ -40,9 +42,12 @@ pub record Stands (t : Talk) (s : Speaker) (l : Lists) (chunk room : List ℕ) :
   pub sits : Sits s l chunk room
   pub talk-is : talkOf s l chunk room ≡ t
 
+abbrev pub speaker : Reader → ℕ → ℕ → ℕ → ℕ → Stage → Speaker
+speaker r from got done written stage = record { reader = r; from = from; got = got; done = done; written = written; stage = stage }
+
 -- the speaker before anything is read
 unfoldable pub startSpeaker : Speaker
-startSpeaker = record { reader = startReader false 1; from = 0; got = 0; done = 0; written = 0; stage = Listening }
+startSpeaker = speaker (startReader false 1) 0 0 0 0 Listening
 
 -- ---- what the system did
 -- what happened, where the bytes that were read stand at the front of the chunk

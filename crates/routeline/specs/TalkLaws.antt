@@ -24,25 +24,11 @@ by-stage Listening f g h = f refl
 by-stage AllHeard f g h = g refl
 by-stage CutShort f g h = h refl
 
-listening≢all-heard : {stage : Stage} → stage ≡ Listening → stage ≡ AllHeard → ⊥
-listening≢all-heard p q = let z : _≡_ {A = ℕ} 0 1 = cc in omega arith
+-- two things that differ are not the same
+pub never : {P : Type 0} → _≡_ {A = ℕ} 0 1 → P
+never e = absurd (omega arith)
 
-listening≢cut-short : {stage : Stage} → stage ≡ Listening → stage ≡ CutShort → ⊥
-listening≢cut-short p q = let z : _≡_ {A = ℕ} 0 1 = cc in omega arith
-
-all-heard≢cut-short : {stage : Stage} → stage ≡ AllHeard → stage ≡ CutShort → ⊥
-all-heard≢cut-short p q = let z : _≡_ {A = ℕ} 0 1 = cc in omega arith
-
-read≢stop : {ask : Ask} → ask ≡ Read → ask ≡ Stop → ⊥
-read≢stop p q = let z : _≡_ {A = ℕ} 0 1 = cc in omega arith
-
-write≢stop : {ask : Ask} → ask ≡ Write → ask ≡ Stop → ⊥
-write≢stop p q = let z : _≡_ {A = ℕ} 0 1 = cc in omega arith
-
-write≢read : {ask : Ask} → ask ≡ Write → ask ≡ Read → ⊥
-write≢read p q = let z : _≡_ {A = ℕ} 0 1 = cc in omega arith
-
-empty : (l : List ℕ) → length l ≡ 0 → l ≡ []
+pub empty : (l : List ℕ) → length l ≡ 0 → l ≡ []
 empty [] e = refl
 empty (x ∷ l) e = absurd (omega arith)
 
@@ -53,36 +39,39 @@ pub record AsksToRead (t : Talk) : Type 0 where
   pub listening : t .stage ≡ Listening
   pub going : t .file .going ≡ true
 
-asks-to-read : (t : Talk) → asks t ≡ Read → AsksToRead t
+asks-owing : (t : Talk) → (length (t .owed) ≡ 0 → ⊥) → asks t ≡ Write
 unfolding asks
+asks-owing t some = rw (ne-eqb _ _ some)
+
+asks-idle : (t : Talk) (stage : Stage) (going : Bool) → length (t .owed) ≡ 0 → t .stage ≡ stage → t .file .going ≡ going → asks t ≡ asksOn stage going
+unfolding asks
+asks-idle t stage going none l g = rw (eq-eqb _ _ none, l, g)
+
+asks-to-read : (t : Talk) → asks t ≡ Read → AsksToRead t
 asks-to-read t e =
     by-eq (length (t .owed)) 0
     (λ none. by-stage (t .stage)
-    (λ l. by-bool (t .file .going) (λ g. record { none-owed = none; listening = l; going = g }) (λ g. absurd (read≢stop e (rw (eq-eqb _ _ none, l, g)))))
-    (λ l. absurd (read≢stop e (rw (eq-eqb _ _ none, l))))
-    (λ l. absurd (read≢stop e (rw (eq-eqb _ _ none, l)))))
-    (λ some. absurd (write≢read (rw (ne-eqb _ _ some)) e))
+    (λ l. by-bool (t .file .going) (λ g. record { none-owed = none; listening = l; going = g }) (λ g. let q = asks-idle t Listening false none l g in never (cc)))
+    (λ l. let q = asks-idle t AllHeard (t .file .going) none l refl in never (cc))
+    (λ l. let q = asks-idle t CutShort (t .file .going) none l refl in never (cc)))
+    (λ some. let q = asks-owing t some in never (cc))
 
 asks-to-write : (t : Talk) → asks t ≡ Write → length (t .owed) ≡ 0 → ⊥
-unfolding asks
 asks-to-write t e none =
     by-stage (t .stage)
-    (λ l. by-bool (t .file .going) (λ g. write≢read e (rw (eq-eqb _ _ none, l, g))) (λ g. write≢stop e (rw (eq-eqb _ _ none, l, g))))
-    (λ l. write≢stop e (rw (eq-eqb _ _ none, l)))
-    (λ l. write≢stop e (rw (eq-eqb _ _ none, l)))
+    (λ l. by-bool (t .file .going) (λ g. let q = asks-idle t Listening true none l g in never (cc)) (λ g. let q = asks-idle t Listening false none l g in never (cc)))
+    (λ l. let q = asks-idle t AllHeard (t .file .going) none l refl in never (cc))
+    (λ l. let q = asks-idle t CutShort (t .file .going) none l refl in never (cc))
 
 asks-to-stop : (t : Talk) → asks t ≡ Stop → length (t .owed) ≡ 0
-unfolding asks
-asks-to-stop t e = by-eq (length (t .owed)) 0 (λ none. none) (λ some. absurd (write≢stop (rw (ne-eqb _ _ some)) e))
+asks-to-stop t e = by-eq (length (t .owed)) 0 (λ none. none) (λ some. let q = asks-owing t some in never (cc))
 
 stops-listening : (t : Talk) → asks t ≡ Stop → t .stage ≡ Listening → t .file .going ≡ false
-unfolding asks
 stops-listening t e l =
-    by-bool (t .file .going) (λ g. absurd (read≢stop (rw (eq-eqb _ _ (asks-to-stop t e), l, g)) e)) (λ g. g)
+    by-bool (t .file .going) (λ g. let q = asks-idle t Listening true (asks-to-stop t e) l g in never (cc)) (λ g. g)
 
 cut-short-stops : (t : Talk) → length (t .owed) ≡ 0 → t .stage ≡ CutShort → asks t ≡ Stop
-unfolding asks
-cut-short-stops t none l = rw (eq-eqb _ _ none, l)
+cut-short-stops t none l = asks-idle t CutShort (t .file .going) none l refl
 
 -- ---- bytes
 feed-one : (f : File) (b : ℕ) → feed f (b ∷ []) ≡ takeByte f b
@@ -141,17 +130,17 @@ kept-hearing s t l h =
     record {
       in-order = hears-in-order s t h;
       hears = λ _. h;
-      finishes = λ e. absurd (listening≢all-heard l e);
-      none-owed = λ e. absurd (listening≢cut-short l e);
+      finishes = λ e. never (cc);
+      none-owed = λ e. never (cc);
     }
 
 kept-finishing : (s : Seen) (t : Talk) → t .stage ≡ AllHeard → Finishes s t → Kept s t
 kept-finishing s t l h =
     record {
       in-order = record { rest = t .owed; whole-is = rw (h .has-ended) (h .said) };
-      hears = λ e. absurd (listening≢all-heard e l);
+      hears = λ e. never (cc);
       finishes = λ _. h;
-      none-owed = λ e. absurd (all-heard≢cut-short l e);
+      none-owed = λ e. never (cc);
     }
 
 -- looking on keeps it
@@ -188,11 +177,28 @@ module _ (s : Seen) (goes-on : s .ended ≡ false) where
         last = l;
       })
 
--- nothing is looked at where nothing was heard
-look-nothing : (stage : Stage) (f : File) (owed heard : List ℕ) → heard ≡ [] → lookOn stage f owed heard ≡ talk f heard owed stage
+-- a byte is looked at where nothing is owed and the file goes on
+pub look-one : (stage : Stage) (f : File) (owed : List ℕ) (b : ℕ) (heard : List ℕ) → length owed ≡ 0 → f .going ≡ true → lookOn stage f owed (b ∷ heard) ≡ lookOn stage (takeByte f b .file) (takeByte f b .printed) heard
 unfolding lookOn
-look-nothing stage f owed [] e = refl
-look-nothing stage f owed (b ∷ heard) e = absurd (omega (arith, ap length e))
+look-one stage f owed b heard none goes =
+    cases2 (λ (t : Talk). t ≡ lookOn stage (takeByte f b .file) (takeByte f b .printed) heard) (isNone owed) (f .going) (λ _ _. refl) (λ some. absurd (true≢false goes (some (eq-eqb _ _ none))))
+
+-- nothing is looked at where nothing was heard, where something is owed, and where a refusal has ended the file
+module _ (stage : Stage) (f : File) (owed : List ℕ) where
+  pub look-nothing : (heard : List ℕ) → heard ≡ [] → lookOn stage f owed heard ≡ talk f heard owed stage
+  unfolding lookOn
+  look-nothing [] e = refl
+  look-nothing (b ∷ heard) e = absurd (omega (arith, ap length e))
+
+  pub look-owing : (heard : List ℕ) → (length owed ≡ 0 → ⊥) → lookOn stage f owed heard ≡ talk f heard owed stage
+  unfolding lookOn
+  look-owing [] some = refl
+  look-owing (b ∷ heard) some = rw (ne-eqb _ _ some)
+
+  pub look-ended : (heard : List ℕ) → f .going ≡ false → lookOn stage f owed heard ≡ talk f heard owed stage
+  unfolding lookOn
+  look-ended [] e = refl
+  look-ended (b ∷ heard) e = cases2 (λ (t : Talk). t ≡ talk f (b ∷ heard) owed stage) (isNone owed) (f .going) (λ _ goes. absurd (true≢false goes e)) (λ _. refl)
 
 module _ (s : Seen) (t : Talk) (k : Kept s t) where
   -- ---- each event keeps the invariant
@@ -278,8 +284,8 @@ module _ (s : Seen) (t : Talk) (k : Kept s t) where
   kept-failed =
       record {
         in-order = k .in-order;
-        hears = λ l. absurd (listening≢cut-short l refl);
-        finishes = λ l. absurd (all-heard≢cut-short l refl);
+        hears = λ l. never (cc);
+        finishes = λ l. never (cc);
         none-owed = λ _. refl;
       }
 

@@ -86,15 +86,18 @@ fn asks(speaker: Speaker) -> Ask
     if speaker.done < speaker.written {
         return Ask::Write;
     }
-    let stage = speaker.stage;
-    let Stage::Listening = stage else {
-        return Ask::Stop;
-    };
     let reader = speaker.reader;
-    if reader.going {
-        return Ask::Read;
+    let stage = speaker.stage;
+    match stage {
+        Stage::Listening => {
+            if reader.going {
+                return Ask::Read;
+            }
+            Ask::Stop
+        }
+        Stage::AllHeard => Ask::Stop,
+        Stage::CutShort => Ask::Stop,
     }
-    Ask::Stop
 }
 
 // The bytes that are owed.
@@ -335,16 +338,19 @@ fn say(part: &[u8]) -> Did
     did
 }
 
-// Asks the system for what the talk asks, which is not to stop.
+// Asks the system for what the talk asks. Where that is to stop, nothing happens.
 fn ask_system(ask: Ask, speaker: Speaker, chunk: &mut [u8], room: &[u8]) -> Did
     requires { ⌜ OwedWithin speaker (now room) ⌝ }
     ensures { λ r. ⌜ Answers ask speaker r (now (chunk .entry)) (now (chunk .exit)) ⌝ }
 {
-    let Ask::Write = ask else {
-        return hear(chunk);
-    };
-    let part = owed(speaker, room);
-    say(part)
+    match ask {
+        Ask::Write => {
+            let part = owed(speaker, room);
+            say(part)
+        }
+        Ask::Read => hear(chunk),
+        Ask::Stop => Did::Interrupted,
+    }
 }
 
 // What the program is and how it is called, for whoever gives it an argument.

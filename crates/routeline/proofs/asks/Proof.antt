@@ -8,14 +8,23 @@ use Rattle.routeline.proofs.asks.Lts as lts
 returns : tie.Need-returns
 returns c = ?
 
+-- src/main.rt:93:16
 enum-told : tie.Need-enum-told
 enum-told c = search needs
 
--- src/main.rt:91:9
+-- src/main.rt:94:17
 returns-2 : tie.Need-returns-2
 returns-2 c = ?
 
--- src/main.rt:95:9
+-- src/main.rt:98:28
+enum-told-2 : tie.Need-enum-told-2
+enum-told-2 c = search needs
+
+-- src/main.rt:99:28
+enum-told-3 : tie.Need-enum-told-3
+enum-told-3 c = search needs
+
+-- src/main.rt:83:1
 returns-3 : tie.Need-returns-3
 returns-3 c = ?
 
@@ -23,5 +32,11 @@ returns-3 c = ?
 returns-4 : tie.Need-returns-4
 returns-4 c = ?
 
+-- src/main.rt:83:1
+returns-5 : tie.Need-returns-5
+returns-5 c = ?
+
 pub asks-spec : {M : Type 1} → statement M
-asks-spec = tie.close (tie.spec returns enum-told returns-2 returns-3 returns-4)
+asks-spec =
+    tie.close
+    (tie.spec returns enum-told returns-2 enum-told-2 enum-told-3 returns-3 returns-4 returns-5)
