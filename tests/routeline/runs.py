@@ -192,9 +192,10 @@ def cut(ran, printed, words, error):
     that reads the file or writes an answer."""
     same("printed", ran.printed, printed)
     same("said", ran.words, words + os.strerror(error) + "\n")
-    moves = [call for call in ran.calls if call.file in (0, 1)]
-    failed = [call.moved for call in moves].index(-error)
-    same("calls after the one that failed", moves[failed + 1:], [])
+    moved = [call.moved for call in ran.calls if call.file in (0, 1)]
+    if -error not in moved:
+        raise Wrong("no call failed so")
+    same("calls after the one that failed", moved[moved.index(-error) + 1:], [])
 
 
 def met(ran, moved):
