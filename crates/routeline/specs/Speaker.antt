@@ -1,10 +1,10 @@
 -- What the code's speaker and its lists stand for, and what each function of the program promises in the words of Talk.
 -- Definitions only; their laws are in SpeakerLaws. Assumes nothing.
 use mathlib.Core.Path.{_≡_}
-use mathlib.Core.Bool.{false, cond}
+use mathlib.Core.Bool.{Bool, false, cond, _&&_}
 use mathlib.Core.List.{List}
 use Prim.Native.Nat.{ℕ, _+_, _-_, _≤_, min}
-use lib.Dec.{eqb}
+use lib.Dec.{eqb, ltb}
 use lib.IntN.{ℤ, pos, negsuc}
 use lib.ListN.{length, take}
 use lib.Seq.{slice}
@@ -42,12 +42,12 @@ pub record Stands (t : Talk) (s : Speaker) (l : Lists) (chunk room : List ℕ) :
   pub sits : Sits s l chunk room
   pub talk-is : talkOf s l chunk room ≡ t
 
-abbrev pub speaker : Reader → ℕ → ℕ → ℕ → ℕ → Stage → Speaker
-speaker r from got done written stage = record { reader = r; from = from; got = got; done = done; written = written; stage = stage }
+abbrev pub speakerAt : Reader → ℕ → ℕ → ℕ → ℕ → Stage → Speaker
+speakerAt r from got done written stage = record { reader = r; from = from; got = got; done = done; written = written; stage = stage }
 
 -- the speaker before anything is read
 unfoldable pub startSpeaker : Speaker
-startSpeaker = speaker (startReader false 1) 0 0 0 0 Listening
+startSpeaker = speakerAt (startReader false 1) 0 0 0 0 Listening
 
 -- ---- what the system did
 -- what happened, where the bytes that were read stand at the front of the chunk
@@ -71,16 +71,18 @@ unfoldable pub unmovedBy : ℤ → Did
 unmovedBy (pos n) = cond (eqb n interruptedError) Interrupted (cond (eqb n waitError) WouldWait Failed)
 unmovedBy (negsuc n) = Failed
 
--- what a read did, by its answer and the number of the error: below 0 it moved nothing, at 0 the input has ended, else it is how
--- many bytes came, at most as many as there is room for
-unfoldable pub readingOf : ℤ → ℤ → ℕ → Did
-readingOf (pos n) error most = cond (eqb n 0) Ended (Came (min n most))
-readingOf (negsuc n) error most = unmovedBy error
+-- what a call did, by its answer and the number of the error: below 0 it moved nothing; at 0 it did what `none` says; else it is
+-- how many bytes were moved, at most as many as there were to move
+unfoldable pub answerOf : Did → (ℕ → Did) → ℤ → ℤ → ℕ → Did
+answerOf none some (pos n) error most = cond (eqb n 0) none (some (min n most))
+answerOf none some (negsuc n) error most = unmovedBy error
 
--- what a write did: the same, but that at 0 it is tried again
-unfoldable pub writingOf : ℤ → ℤ → ℕ → Did
-writingOf (pos n) error most = cond (eqb n 0) WouldWait (Went (min n most))
-writingOf (negsuc n) error most = unmovedBy error
+-- a read that moved no byte has found the end of the input; a write that moved none is made again
+abbrev pub readingOf : ℤ → ℤ → ℕ → Did
+readingOf = answerOf Ended Came
+
+abbrev pub writingOf : ℤ → ℤ → ℕ → Did
+writingOf = answerOf WouldWait Went
 
 -- no more bytes came than there is room for
 pub record CameWithin (did : Did) (most : ℕ) : Type 0 where
@@ -113,6 +115,10 @@ pub record AsksAs (s : Speaker) (ask : Ask) : Type 0 where
 pub record Answers (ask : Ask) (s : Speaker) (did : Did) (chunk chunk-after : List ℕ) : Type 0 where
   pub of-write : ask ≡ Write → WriteDid (s .written - s .done) did × (chunk-after ≡ chunk)
   pub of-read : ask ≡ Read → ReadDid (length chunk-after) did × (length chunk-after ≡ length chunk)
+
+-- a byte is looked at: there is one, nothing is owed, and no refusal has ended the file
+unfoldable pub looksOn : Reader → ℕ → ℕ → ℕ → ℕ → Bool
+looksOn r from got done written = ltb from got && eqb done written && r .going
 
 -- the speaker is told what the system did
 pub record TellsAs (s : Speaker) (did : Did) (after : Speaker) (room room-after : List ℕ) : Type 0 where

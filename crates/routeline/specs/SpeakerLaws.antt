@@ -1,20 +1,21 @@
 -- Laws of the code's speaker: it begins as a talk begins, asks what its talk asks, and each step of it is a step of its talk; so
 -- the program holds a talk that can come to pass, from its beginning on. Assumes nothing.
 use mathlib.Core.Path.{_≡_, refl, sym, ap, _∙_}
-use mathlib.Core.Bool.{true, false}
+use mathlib.Core.Bool.{true, false, _&&_}
 use mathlib.Core.List.{List, [], _∷_}
 use Prim.Native.Nat.{ℕ, zero, suc, _+_, _-_, _≤_, _<_, min}
 use native.Mathlib.Omega.{arith}
 use native.Mathlib.Numerals.{add-one}
-use borrow.Author.Tests.{eq-eqb, ne-eqb}
-use lib.Dec.{eqb}
+use borrow.Author.Tests.{eq-eqb, ne-eqb, eqb-true, ltb-true, lt-ltb}
+use lib.Dec.{eqb, ltb}
 use lib.IntN.{ℤ, pos, negsuc}
 use lib.Signed.{ltZ}
 use lib.ListN.{length, take, drop, getD, length-append, length-drop}
 use lib.Seq.{slice, slice-empty, slice-cons, length-slice, drop-drop, take-nil, take-at}
 use mir.Syntax.{w32, w64}
 use mir.Val.{SFits, ofZ}
-use Rattle.network.specs.CaseSplit.{cases}
+use Rattle.io.specs.Counts.{clamped}
+use Rattle.network.specs.CaseSplit.{cases, by-bool, by-eq, by-lt, both-true, true≢false}
 use Rattle.frames.specs.Room.{laid, Laid, Placed}
 use Rattle.frames.specs.RoomLaws.{placed-laid}
 use Rattle.district.specs.declared.Reader.{Reader}
@@ -32,7 +33,7 @@ use Rattle.routeline.specs.declared.Did.the-variants.{Came, Ended as End
 use Rattle.routeline.specs.declared.Speaker.{Speaker}
 use Rattle.routeline.specs.Talk.{Talk, talk, silence, asks, asksOn, isNone, Event, came, over, went, again, failed, Possible, can-come, can-end, can-go, can-pass, can-fail, lookOn, look, told, after, Seen, seen, seenAfter, Talked, begun, then}
 use Rattle.routeline.specs.TalkLaws.{never, empty, look-one, look-nothing, look-owing, look-ended, none-left-to-look-at}
-use Rattle.routeline.specs.Speaker.{talkOf, OwedWithin, Sits, Stands, speaker, startSpeaker, eventOf, interruptedError, waitError, unmovedBy, readingOf, writingOf, CameWithin, WentWithin, ReadDid, read-some, read-end, read-interrupted, read-later, read-failed, WriteDid, wrote-some, write-interrupted, write-later, write-failed, AsksAs, Answers, TellsAs}
+use Rattle.routeline.specs.Speaker.{talkOf, OwedWithin, Sits, Stands, speakerAt, startSpeaker, eventOf, interruptedError, waitError, unmovedBy, answerOf, readingOf, writingOf, CameWithin, WentWithin, ReadDid, read-some, read-end, read-interrupted, read-later, read-failed, WriteDid, wrote-some, write-interrupted, write-later, write-failed, AsksAs, Answers, looksOn, TellsAs}
 
 -- ---- parts of lists
 -- the part from a to b, as it is lent
@@ -80,20 +81,65 @@ module _ (s : Speaker) where
       }
 
 -- ---- what the system did
-unmoved-cases : (error : ℤ) (P : Did → Type 0) → P Interrupted → P WouldWait → P Failed → P (unmovedBy error)
+-- the number of an error, read off its bits
+from-bits : (error : ℤ) (n : ℕ) → n < 2147483648 → SFits w32 error → ofZ w32 error ≡ n → error ≡ pos n
+from-bits (pos m) n small f e = ap pos e
+from-bits (negsuc m) n small f e = absurd (omega (arith, f .sfits))
+
+pub unmoved-interrupted : (error : ℤ) → SFits w32 error → ofZ w32 error ≡ interruptedError → Interrupted ≡ unmovedBy error
 unfolding unmovedBy
-unmoved-cases (pos n) P a b c = cases P (eqb n interruptedError) (λ _. a) (λ _. cases P (eqb n waitError) (λ _. b) (λ _. c))
-unmoved-cases (negsuc n) P a b c = c
+unmoved-interrupted error f e = rw (from-bits error interruptedError (omega arith) f e)
+
+pub unmoved-later : (error : ℤ) → SFits w32 error → ofZ w32 error ≡ waitError → WouldWait ≡ unmovedBy error
+unfolding unmovedBy
+unmoved-later error f e = rw (from-bits error waitError (omega arith) f e)
+
+pub unmoved-failed : (error : ℤ) → (ofZ w32 error ≡ interruptedError → ⊥) → (ofZ w32 error ≡ waitError → ⊥) → Failed ≡ unmovedBy error
+unfolding unmovedBy
+unmoved-failed (pos n) a b = rw (ne-eqb n interruptedError a, ne-eqb n waitError b)
+unmoved-failed (negsuc n) a b = refl
+
+-- what a call did, in its three cases
+module _ (none : Did) (some : ℕ → Did) where
+  pub answer-unmoved : (got error : ℤ) (most : ℕ) → ltZ got (pos 0) ≡ true → unmovedBy error ≡ answerOf none some got error most
+  unfolding answerOf
+  answer-unmoved (pos n) error most below = absurd (omega (arith, ltb-true n 0 below))
+  answer-unmoved (negsuc n) error most below = refl
+
+  pub answer-none : (got error : ℤ) (most : ℕ) → ltZ got (pos 0) ≡ false → ofZ w64 got ≡ 0 → none ≡ answerOf none some got error most
+  unfolding answerOf
+  answer-none (pos n) error most above e = rw (eq-eqb n 0 e)
+  answer-none (negsuc n) error most above e = never (cc)
+
+  pub answer-some : (got error : ℤ) (most n : ℕ) → ltZ got (pos 0) ≡ false → (ofZ w64 got ≡ 0 → ⊥) → n ≡ clamped got most → some n ≡ answerOf none some got error most
+  unfolding answerOf
+  answer-some (pos n) error most k above e c = rw (ne-eqb n 0 e, c)
+  answer-some (negsuc n) error most k above e c = never (cc)
+
+  answer-cases : (P : Did → Type 0) (got error : ℤ) (most : ℕ) → P none → ((n : ℕ) → n ≤ most → P (some n)) → P Interrupted → P WouldWait → P Failed → P (answerOf none some got error most)
+  unfolding answerOf unmovedBy
+  answer-cases P (pos n) error most z s a b c = cases P (eqb n 0) (λ _. z) (λ _. s (min n most) (omega arith))
+  answer-cases P (negsuc n) (pos e) most z s a b c = cases P (eqb e interruptedError) (λ _. a) (λ _. cases P (eqb e waitError) (λ _. b) (λ _. c))
+  answer-cases P (negsuc n) (negsuc e) most z s a b c = c
 
 pub reads : (got error : ℤ) (most : ℕ) → ReadDid most (readingOf got error most)
-unfolding readingOf
-reads (pos n) error most = cases (ReadDid most) (eqb n 0) (λ _. read-end) (λ _. read-some (omega arith))
-reads (negsuc n) error most = unmoved-cases error (ReadDid most) read-interrupted read-later read-failed
+reads got error most = answer-cases EndedThere Came (ReadDid most) got error most read-end (λ n h. read-some h) read-interrupted read-later read-failed
 
 pub writes : (put error : ℤ) (most : ℕ) → WriteDid most (writingOf put error most)
-unfolding writingOf
-writes (pos n) error most = cases (WriteDid most) (eqb n 0) (λ _. write-later) (λ _. wrote-some (omega arith))
-writes (negsuc n) error most = unmoved-cases error (WriteDid most) write-interrupted write-later write-failed
+writes put error most = answer-cases WouldWait Went (WriteDid most) put error most write-later (λ n h. wrote-some h) write-interrupted write-later write-failed
+
+-- what was asked was done
+module _ (s : Speaker) (did : Did) (chunk : List ℕ) where
+  pub answers-write : (room part : List ℕ) → OwedWithin s room → part ≡ slice (s .done) (s .written) room → WriteDid (length part) did → Answers Write s did chunk chunk
+  answers-write room part w p d =
+      let n : length part ≡ s .written - s .done = ap length p ∙ length-slice (s .done) (s .written) room (w .owed-within) in
+      record { of-write = λ _. (rw n at d, refl); of-read = λ e. never (cc) }
+
+  pub answers-read : (chunk-after : List ℕ) → length chunk-after ≡ length chunk → ReadDid (length chunk-after) did → Answers Read s did chunk chunk-after
+  answers-read chunk-after n d = record { of-write = λ e. never (cc); of-read = λ _. (d, n) }
+
+  pub answers-nothing : Answers Stop s did chunk chunk
+  answers-nothing = record { of-write = λ e. never (cc); of-read = λ e. never (cc) }
 
 -- ---- what is told
 module _ (text room after : List ℕ) (count : ℕ) (short : length text ≤ mostBytes) (for-answer : mostBytes ≤ length room) (p : Placed text room after count) where
@@ -112,7 +158,7 @@ module _ (text room after : List ℕ) (count : ℕ) (short : length text ≤ mos
   laid-part = rw (its-laid .room-is) (take-at text (drop (length text) room) count (sym (its-laid .count-is)))
 
 module _ (s : Speaker) (room : List ℕ) where
-  pub tells-came : (n : ℕ) → TellsAs s (Came n) (speaker (s .reader) 0 n (s .done) (s .written) (s .stage)) room room
+  pub tells-came : (n : ℕ) → TellsAs s (Came n) (speakerAt (s .reader) 0 n (s .done) (s .written) (s .stage)) room room
   unfolding talkOf told eventOf
   tells-came n =
       record {
@@ -123,7 +169,7 @@ module _ (s : Speaker) (room : List ℕ) where
             };
       }
 
-  pub tells-went : (n : ℕ) → s .done + n ≤ s .written → TellsAs s (Went n) (speaker (s .reader) (s .from) (s .got) (s .done + n) (s .written) (s .stage)) room room
+  pub tells-went : (n : ℕ) → s .done + n ≤ s .written → TellsAs s (Went n) (speakerAt (s .reader) (s .from) (s .got) (s .done + n) (s .written) (s .stage)) room room
   unfolding talkOf told eventOf
   tells-went n h =
       record {
@@ -142,7 +188,7 @@ module _ (s : Speaker) (room : List ℕ) where
   unfolding told eventOf
   tells-later = record { law = λ l chunk k w. record { sits = k; talk-is = refl } }
 
-  pub tells-failed : TellsAs s Failed (speaker (s .reader) 0 0 0 0 CutShort) room room
+  pub tells-failed : TellsAs s Failed (speakerAt (s .reader) 0 0 0 0 CutShort) room room
   unfolding talkOf told eventOf
   tells-failed =
       record {
@@ -153,7 +199,7 @@ module _ (s : Speaker) (room : List ℕ) where
             };
       }
 
-  pub tells-ended : (after : List ℕ) (count : ℕ) → Ended (s .reader) room after count → TellsAs s EndedThere (speaker (s .reader) (s .from) (s .got) 0 count AllHeard) room after
+  pub tells-ended : (after : List ℕ) (count : ℕ) → Ended (s .reader) room after count → TellsAs s EndedThere (speakerAt (s .reader) (s .from) (s .got) 0 count AllHeard) room after
   unfolding talkOf told eventOf
   tells-ended after count e =
       record {
@@ -185,6 +231,9 @@ pub record SameLengths (l after : Lists) (old room : List ℕ) : Type 0 where
   pub backward : length (after .backward) ≡ length (l .backward)
   pub room-is : length room ≡ length old
 
+pub same-lengths : (l : Lists) (room : List ℕ) → SameLengths l l room room
+same-lengths l room = record { line = refl; tails = refl; heads = refl; weights = refl; forward = refl; backward = refl; room-is = refl }
+
 -- looking on from here leads where looking on from the beginning does
 pub record LookUnderway (t : Talk) (s : Speaker) (l : Lists) (chunk room : List ℕ) : Type 0 where
   pub sits : Sits s l chunk room
@@ -198,11 +247,36 @@ abbrev stepAt : Speaker → Lists → List ℕ → FileStep
 stepAt s l chunk = takeByte (fileOf (s .reader) l) (getD chunk (s .from) 0)
 
 abbrev pub nextSpeaker : Speaker → Taken → Speaker
-nextSpeaker s taken = speaker (taken .reader) (s .from + 1) (s .got) 0 (taken .written) (s .stage)
+nextSpeaker s taken = speakerAt (taken .reader) (s .from + 1) (s .got) 0 (taken .written) (s .stage)
+
+-- when a byte is looked at
+pub record LooksOn (r : Reader) (from got done written : ℕ) : Type 0 where
+  pub there : from < got
+  pub paid : done ≡ written
+  pub goes : r .going ≡ true
+
+pub looks-on-more : (r : Reader) (from got done written : ℕ) → looksOn r from got done written ≡ true → LooksOn r from got done written
+unfolding looksOn
+looks-on-more r from got done written on =
+    both-true (ltb from got && eqb done written) (r .going) on
+    (λ a g. both-true (ltb from got) (eqb done written) a (λ m p. record { there = ltb-true from got m; paid = eqb-true done written p; goes = g }))
+
+looks-on-is : (r : Reader) (from got done written : ℕ) → from < got → done ≡ written → r .going ≡ true → looksOn r from got done written ≡ true
+unfolding looksOn
+looks-on-is r from got done written a p g = rw (lt-ltb _ _ a, eq-eqb _ _ p, g)
 
 -- one byte more is looked at
-module _ (t : Talk) (s : Speaker) (l : Lists) (chunk room : List ℕ) (u : LookUnderway t s l chunk room) (more : s .from < s .got) (paid : s .done ≡ s .written) (goes : s .reader .going ≡ true)
+module _ (t : Talk) (s : Speaker) (l : Lists) (chunk room : List ℕ) (u : LookUnderway t s l chunk room) (on : looksOn (s .reader) (s .from) (s .got) (s .done) (s .written) ≡ true)
     (taken : Taken) (after : Lists) (room-after : List ℕ) (st : Stepped (takeByte (fileOf (s .reader) l) (getD chunk (s .from) 0)) taken l after room room-after) where
+  more : s .from < s .got
+  more = looks-on-more _ _ _ _ _ on .there
+
+  paid : s .done ≡ s .written
+  paid = looks-on-more _ _ _ _ _ on .paid
+
+  goes : s .reader .going ≡ true
+  goes = looks-on-more _ _ _ _ _ on .goes
+
   short : length (stepAt s l chunk .printed) ≤ mostBytes
   short = printed-fits (fileOf (s .reader) l) (getD chunk (s .from) 0) .bytes
 
@@ -213,7 +287,7 @@ module _ (t : Talk) (s : Speaker) (l : Lists) (chunk room : List ℕ) (u : LookU
   next-sits =
       record {
         kept = st .kept;
-        heard-first = omega arith;
+        heard-first = omega (arith, more);
         heard-within = u .sits .heard-within;
         owed-there = record { owed-first = omega arith; owed-within = laid-within (stepAt s l chunk .printed) room room-after (taken .written) short (u .sits .for-answer) (st .room-is) };
         for-answer = omega (arith, u .sits .for-answer, more-length);
@@ -222,7 +296,7 @@ module _ (t : Talk) (s : Speaker) (l : Lists) (chunk room : List ℕ) (u : LookU
   looked-one : look (talkOf s l chunk room) ≡ lookOn (s .stage) (stepAt s l chunk .file) (stepAt s l chunk .printed) (slice (suc (s .from)) (s .got) chunk)
   unfolding talkOf fileOf
   looked-one =
-      let none : length (slice (s .done) (s .written) room) ≡ 0 = length-slice (s .done) (s .written) room (u .sits .owed-there .owed-within) ∙ omega arith in
+      let none : length (slice (s .done) (s .written) room) ≡ 0 = length-slice (s .done) (s .written) room (u .sits .owed-there .owed-within) ∙ omega (arith, paid) in
       ap (λ (h : List ℕ). lookOn (s .stage) (fileOf (s .reader) l) (slice (s .done) (s .written) room) h) (slice-cons (s .from) (s .got) chunk 0 more (u .sits .heard-within))
       ∙ look-one (s .stage) (fileOf (s .reader) l) (slice (s .done) (s .written) room) (getD chunk (s .from) 0) (slice (suc (s .from)) (s .got) chunk) none goes
 
@@ -238,21 +312,28 @@ module _ (t : Talk) (s : Speaker) (l : Lists) (chunk room : List ℕ) (u : LookU
   look-done : look (talkOf s l chunk room) ≡ talkOf s l chunk room → Stands (look t) s l chunk room
   look-done e = record { sits = u .sits; talk-is = sym e ∙ u .leads }
 
-  pub look-all : s .got ≤ s .from → Stands (look t) s l chunk room
+  look-all : s .got ≤ s .from → Stands (look t) s l chunk room
   unfolding talkOf
   look-all h =
       let none : slice (s .from) (s .got) chunk ≡ [] = empty _ (length-slice (s .from) (s .got) chunk (u .sits .heard-within) ∙ omega arith) in
       look-done (look-nothing (s .stage) (fileOf (s .reader) l) (slice (s .done) (s .written) room) (slice (s .from) (s .got) chunk) none)
 
-  pub look-until-owing : (s .done ≡ s .written → ⊥) → Stands (look t) s l chunk room
+  look-until-owing : (s .done ≡ s .written → ⊥) → Stands (look t) s l chunk room
   unfolding talkOf
   look-until-owing h =
       let some : length (slice (s .done) (s .written) room) ≡ 0 → ⊥ = λ e. h (omega (arith, length-slice (s .done) (s .written) room (u .sits .owed-there .owed-within), u .sits .owed-there .owed-first)) in
       look-done (look-owing (s .stage) (fileOf (s .reader) l) (slice (s .done) (s .written) room) (slice (s .from) (s .got) chunk) some)
 
-  pub look-until-ended : s .reader .going ≡ false → Stands (look t) s l chunk room
+  look-until-ended : s .reader .going ≡ false → Stands (look t) s l chunk room
   unfolding talkOf fileOf
   look-until-ended h = look-done (look-ended (s .stage) (fileOf (s .reader) l) (slice (s .done) (s .written) room) (slice (s .from) (s .got) chunk) h)
+
+  pub look-end : looksOn (s .reader) (s .from) (s .got) (s .done) (s .written) ≡ false → Stands (look t) s l chunk room
+  unfolding looksOn
+  look-end off =
+      by-lt (s .from) (s .got)
+      (λ more. by-eq (s .done) (s .written) (λ paid. by-bool (s .reader .going) (λ goes. absurd (true≢false (looks-on-is (s .reader) (s .from) (s .got) (s .done) (s .written) more paid goes) off)) look-until-ended) look-until-owing)
+      look-all
 
 -- what is told and then looked at is what follows
 pub follows : (s : Speaker) (did : Did) (told-to : Speaker) (l : Lists) (chunk room room-told : List ℕ) → Sits s l chunk room → CameWithin did (length chunk) → TellsAs s did told-to room room-told

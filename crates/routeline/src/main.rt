@@ -8,7 +8,7 @@ ghost use lib.ListN.{length};
 ghost use lib.Seq.{slice};
 ghost use Rattle.district.specs.Reader.{lists, Reached};
 ghost use Rattle.routeline.specs.Talk.{look as talkLook, after as talkAfter};
-ghost use Rattle.routeline.specs.Speaker.{talkOf, OwedWithin, Sits, Stands, startSpeaker, eventOf, unmovedBy, readingOf, writingOf, CameWithin, WentWithin, ReadDid, WriteDid, AsksAs, Answers, TellsAs};
+ghost use Rattle.routeline.specs.Speaker.{talkOf, OwedWithin, Sits, Stands, startSpeaker, eventOf, unmovedBy, readingOf, writingOf, CameWithin, WentWithin, ReadDid, WriteDid, AsksAs, Answers, looksOn, TellsAs};
 use district::Reader;
 use libc::STDERR_FILENO;
 use libc::STDIN_FILENO;
@@ -212,6 +212,18 @@ fn told(speaker: Speaker, did: Did, room: &mut [u8]) -> Speaker
     }
 }
 
+// Whether a byte is looked at: there is one, nothing is owed, and no refusal has ended the file.
+fn looks_on(reader: Reader, from: usize, got: usize, done: usize, written: usize) -> bool
+    ensures { λ r. ⌜ r ≡ looksOn reader from got done written ⌝ }
+{
+    if from < got {
+        if done == written {
+            return reader.going;
+        }
+    }
+    false
+}
+
 // Looks at the bytes that are read, one after the other, up to the one that prints something. Where something is owed, or a
 // refusal has ended the file, no byte is looked at.
 fn look(
@@ -233,7 +245,7 @@ fn look(
     let got = speaker.got;
     let mut done = speaker.done;
     let mut written = speaker.written;
-    while from < got && done == written && reader.going {
+    while looks_on(reader, from, got, done, written) {
         let step = district::take_byte(
             reader,
             chunk[from],

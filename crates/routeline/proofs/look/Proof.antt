@@ -1,136 +1,79 @@
+-- `routeline::look` meets its contract. The loop's invariant is `LookUnderway`: looking on from here leads where looking on from the
+-- beginning does; and no list has changed its length. Each byte keeps it, and where no byte is looked at, looking on has ended.
+-- The measure is what is left of the bytes. Assumes nothing.
+use Prim.Native.Nat.{_-_}
+use mathlib.Core.Path.{sym, _∙_}
+use native.Mathlib.Omega.{arith}
+use Rattle.district.specs.Reader.{lists}
+use Rattle.routeline.specs.Speaker.{talkOf, speakerAt}
+use Rattle.routeline.specs.SpeakerLaws.{SameLengths, same-lengths, LookUnderway, look-start, looks-on-more, look-more, look-end}
 use Rattle.routeline.proofs.look.Statement.{statement}
 use Rattle.routeline.proofs.look.Tie as tie
-use Rattle.routeline.proofs.look.Reads as reads
-use Rattle.routeline.proofs.look.Lts as lts
-use Rattle.district.proofs.take_byte.Reads as take-byte-reads
 
 abbrev Inv-loop : tie.InvT-loop
 Inv-loop speaker chunk line₀ tails₀ heads₀ weights₀ forward₀ backward₀ room₀ reader₀ from₀ got done₀ written₀ line tails heads weights forward backward room reader from done written =
-    ?
+    LookUnderway (talkOf speaker (lists line₀ tails₀ heads₀ weights₀ forward₀ backward₀) chunk room₀) (speakerAt reader from got done written (speaker .stage)) (lists line tails heads weights forward backward) chunk room
+    × SameLengths (lists line₀ tails₀ heads₀ weights₀ forward₀ backward₀) (lists line tails heads weights forward backward) room₀ room
 
 abbrev μ-loop : tie.MeasureT-loop
 μ-loop speaker chunk line₀ tails₀ heads₀ weights₀ forward₀ backward₀ room₀ reader₀ from₀ got done₀ written₀ line tails heads weights forward backward room reader from done written =
-    ?
+    got - from
 
--- src/main.rt:236:5
 loop-holds : tie.Need-loop-holds Inv-loop μ-loop
-loop-holds c = ?
+loop-holds c = (look-start _ _ _ _ (c .before .before .before .before .before .before .before .pre), same-lengths _ _)
 
--- src/main.rt:239:13
+looks-on-requires : tie.Need-looks-on-requires Inv-loop μ-loop
+looks-on-requires c κs = tt
+
 shared-slice-read-take-byte : tie.Need-shared-slice-read-take-byte Inv-loop μ-loop
-shared-slice-read-take-byte c = ?
+shared-slice-read-take-byte c =
+    let loop = c .before .before .before .loop in
+    let on = looks-on-more _ _ _ _ _ (sym (c .before .before .looks-on .ensures) ∙ c .before .if1 .taken) in
+    omega (arith, on .there, loop .inv .0 .sits .heard-within)
 
--- src/main.rt:237:13
 take-byte-requires : tie.Need-take-byte-requires Inv-loop μ-loop
-take-byte-requires c κs = ?
+take-byte-requires c κs = c .before .before .before .before .before .before .before .before .before .before .loop .inv .0 .sits .kept
 
--- src/main.rt:249:9
 add-from : tie.Need-add-from Inv-loop μ-loop
-add-from c = ?
+add-from c =
+    let loop = c .before .before .before .before .before .before .before .before .before .before .before .before .before .before .before .before .before .before .before .before .before .before .before .before .loop in
+    let on = looks-on-more _ _ _ _ _ (sym (c .before .before .before .before .before .before .before .before .before .before .before .before .before .before .before .before .before .before .before .before .before .before .before .looks-on .ensures) ∙ c .before .before .before .before .before .before .before .before .before .before .before .before .before .before .before .before .before .before .before .before .before .before .if1 .taken) in
+    omega (arith, on .there, loop .inv .0 .sits .heard-within, c .before .before .before .before .before .before .before .before .before .before .before .before .before .before .before .before .before .before .before .before .before .before .before .before .before .before .before .before .before .before .before .before .good)
 
--- src/main.rt:236:5
 loop-less : tie.Need-loop-less Inv-loop μ-loop
-loop-less c = ?
+loop-less c =
+    let on = looks-on-more _ _ _ _ _ (sym (c .before .before .before .before .before .before .before .before .before .before .before .before .before .before .before .before .before .before .before .before .before .before .before .looks-on .ensures) ∙ c .before .before .before .before .before .before .before .before .before .before .before .before .before .before .before .before .before .before .before .before .before .before .if1 .taken) in
+    omega (arith, on .there)
 
--- src/main.rt:236:5
 loop-again : tie.Need-loop-again Inv-loop μ-loop
-loop-again c = ?
+loop-again c =
+    let loop = c .before .before .before .before .before .before .before .before .before .before .before .before .before .before .before .before .before .before .before .before .before .before .before .before .loop in
+    let step = c .before .before .before .before .before .before .before .before .before .before .before .before .before .take-byte in
+    (look-more _ _ _ _ _ (loop .inv .0) (sym (c .before .before .before .before .before .before .before .before .before .before .before .before .before .before .before .before .before .before .before .before .before .before .before .looks-on .ensures) ∙ c .before .before .before .before .before .before .before .before .before .before .before .before .before .before .before .before .before .before .before .before .before .before .if1 .taken) _ _ _ (step .ensures), record { line = omega (arith, step .kept, loop .inv .1 .line); tails = omega (arith, step .kept, loop .inv .1 .tails); heads = omega (arith, step .kept, loop .inv .1 .heads); weights = omega (arith, step .kept, loop .inv .1 .weights); forward = omega (arith, step .kept, loop .inv .1 .forward); backward = omega (arith, step .kept, loop .inv .1 .backward); room-is = omega (arith, step .kept, loop .inv .1 .room-is); })
 
--- src/main.rt:217:1
 same-length : tie.Need-same-length Inv-loop μ-loop
-same-length c = ?
+same-length c = omega (arith, c .before .before .loop .inv .1 .line)
 
--- src/main.rt:217:1
 same-length-2 : tie.Need-same-length-2 Inv-loop μ-loop
-same-length-2 c = ?
+same-length-2 c = omega (arith, c .before .before .loop .inv .1 .tails)
 
--- src/main.rt:217:1
 same-length-3 : tie.Need-same-length-3 Inv-loop μ-loop
-same-length-3 c = ?
+same-length-3 c = omega (arith, c .before .before .loop .inv .1 .heads)
 
--- src/main.rt:217:1
 same-length-4 : tie.Need-same-length-4 Inv-loop μ-loop
-same-length-4 c = ?
+same-length-4 c = omega (arith, c .before .before .loop .inv .1 .weights)
 
--- src/main.rt:217:1
 same-length-5 : tie.Need-same-length-5 Inv-loop μ-loop
-same-length-5 c = ?
+same-length-5 c = omega (arith, c .before .before .loop .inv .1 .forward)
 
--- src/main.rt:217:1
 same-length-6 : tie.Need-same-length-6 Inv-loop μ-loop
-same-length-6 c = ?
+same-length-6 c = omega (arith, c .before .before .loop .inv .1 .backward)
 
--- src/main.rt:217:1
 same-length-7 : tie.Need-same-length-7 Inv-loop μ-loop
-same-length-7 c = ?
+same-length-7 c = omega (arith, c .before .before .loop .inv .1 .room-is)
 
--- src/main.rt:217:1
 returns : tie.Need-returns Inv-loop μ-loop
-returns c = ?
-
--- src/main.rt:217:1
-same-length-8 : tie.Need-same-length-8 Inv-loop μ-loop
-same-length-8 c = ?
-
--- src/main.rt:217:1
-same-length-9 : tie.Need-same-length-9 Inv-loop μ-loop
-same-length-9 c = ?
-
--- src/main.rt:217:1
-same-length-10 : tie.Need-same-length-10 Inv-loop μ-loop
-same-length-10 c = ?
-
--- src/main.rt:217:1
-same-length-11 : tie.Need-same-length-11 Inv-loop μ-loop
-same-length-11 c = ?
-
--- src/main.rt:217:1
-same-length-12 : tie.Need-same-length-12 Inv-loop μ-loop
-same-length-12 c = ?
-
--- src/main.rt:217:1
-same-length-13 : tie.Need-same-length-13 Inv-loop μ-loop
-same-length-13 c = ?
-
--- src/main.rt:217:1
-same-length-14 : tie.Need-same-length-14 Inv-loop μ-loop
-same-length-14 c = ?
-
--- src/main.rt:217:1
-returns-2 : tie.Need-returns-2 Inv-loop μ-loop
-returns-2 c = ?
-
--- src/main.rt:217:1
-same-length-15 : tie.Need-same-length-15 Inv-loop μ-loop
-same-length-15 c = ?
-
--- src/main.rt:217:1
-same-length-16 : tie.Need-same-length-16 Inv-loop μ-loop
-same-length-16 c = ?
-
--- src/main.rt:217:1
-same-length-17 : tie.Need-same-length-17 Inv-loop μ-loop
-same-length-17 c = ?
-
--- src/main.rt:217:1
-same-length-18 : tie.Need-same-length-18 Inv-loop μ-loop
-same-length-18 c = ?
-
--- src/main.rt:217:1
-same-length-19 : tie.Need-same-length-19 Inv-loop μ-loop
-same-length-19 c = ?
-
--- src/main.rt:217:1
-same-length-20 : tie.Need-same-length-20 Inv-loop μ-loop
-same-length-20 c = ?
-
--- src/main.rt:217:1
-same-length-21 : tie.Need-same-length-21 Inv-loop μ-loop
-same-length-21 c = ?
-
--- src/main.rt:217:1
-returns-3 : tie.Need-returns-3 Inv-loop μ-loop
-returns-3 c = ?
+returns c = look-end _ _ _ _ _ (c .before .before .loop .inv .0) (sym (c .before .looks-on .ensures) ∙ c .if1 .left)
 
 pub look-spec : {M : Type 1} → statement M
 look-spec =
@@ -139,6 +82,7 @@ look-spec =
     Inv-loop
     μ-loop
     loop-holds
+    looks-on-requires
     shared-slice-read-take-byte
     take-byte-requires
     add-from
@@ -151,20 +95,4 @@ look-spec =
     same-length-5
     same-length-6
     same-length-7
-    returns
-    same-length-8
-    same-length-9
-    same-length-10
-    same-length-11
-    same-length-12
-    same-length-13
-    same-length-14
-    returns-2
-    same-length-15
-    same-length-16
-    same-length-17
-    same-length-18
-    same-length-19
-    same-length-20
-    same-length-21
-    returns-3)
+    returns)

@@ -1,69 +1,54 @@
+-- `routeline::told` meets its contract, case by case of what the system did. Assumes nothing.
+use native.Mathlib.Omega.{arith}
+use Rattle.routeline.specs.SpeakerLaws.{tells-came, tells-went, tells-interrupted, tells-later, tells-failed}
 use borrow.Author.Needs.{needs}
 use Rattle.routeline.proofs.told.Statement.{statement}
 use Rattle.routeline.proofs.told.Tie as tie
-use Rattle.routeline.proofs.told.Reads as reads
-use Rattle.routeline.proofs.told.Lts as lts
-use Rattle.routeline.proofs.ended.Reads as ended-reads
 
--- src/main.rt:182:19
 enum-known-did : tie.Need-enum-known-did
 enum-known-did c = search needs
 
--- src/main.rt:190:38
 enum-told : tie.Need-enum-told
 enum-told c = search needs
 
--- src/main.rt:190:23
 ended-requires : tie.Need-ended-requires
 ended-requires c κs = search needs
 
--- src/main.rt:191:19
 enum-known-did-2 : tie.Need-enum-known-did-2
 enum-known-did-2 c = search needs
 
--- src/main.rt:195:19
 add-t12 : tie.Need-add-t12
-add-t12 c = ?
+add-t12 c = omega (arith, c .before .before .before .before .before .before .pre .1 .few _ (c .before .before .did2 .given .1))
 
--- src/main.rt:199:29
 enum-told-2 : tie.Need-enum-told-2
 enum-told-2 c = search needs
 
--- src/main.rt:200:27
 enum-told-3 : tie.Need-enum-told-3
 enum-told-3 c = search needs
 
--- src/main.rt:202:17
 enum-told-4 : tie.Need-enum-told-4
 enum-told-4 c = search needs
 
--- src/main.rt:174:1
 returns : tie.Need-returns
-returns c = ?
+returns c = rw (c .before .did .given .1) (tells-came _ _ _)
 
--- src/main.rt:174:1
 same-length : tie.Need-same-length
 same-length c = search needs
 
--- src/main.rt:174:1
 returns-2 : tie.Need-returns-2
-returns-2 c = ?
+returns-2 c = rw (c .before .before .before .before .enum-told .given .1) (c .before .before .ended .ensures)
 
--- src/main.rt:174:1
 returns-3 : tie.Need-returns-3
-returns-3 c = ?
+returns-3 c = rw (c .before .before .did2 .given .1) (tells-went _ _ _ (c .before .before .before .before .before .before .pre .1 .few _ (c .before .before .did2 .given .1)))
 
--- src/main.rt:174:1
 returns-4 : tie.Need-returns-4
-returns-4 c = ?
+returns-4 c = rw (c .enum-told2 .given .1) (tells-interrupted _ _)
 
--- src/main.rt:174:1
 returns-5 : tie.Need-returns-5
-returns-5 c = ?
+returns-5 c = rw (c .enum-told3 .given .1) (tells-later _ _)
 
--- src/main.rt:174:1
 returns-6 : tie.Need-returns-6
-returns-6 c = ?
+returns-6 c = rw (c .enum-told4 .given .1) (tells-failed _ _)
 
 pub told-spec : {M : Type 1} → statement M
 told-spec =
