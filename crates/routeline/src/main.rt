@@ -277,14 +277,14 @@ fn look(
 fn after(
     speaker: Speaker,
     did: Did,
-    chunk: &[u8],
-    line: &mut [u8],
-    tails: &mut [u16],
-    heads: &mut [u16],
-    weights: &mut [u32],
-    forward: &mut [i32],
-    backward: &mut [i32],
-    room: &mut [u8],
+    chunk: &[u8; CHUNK],
+    line: &mut [u8; DIGITS],
+    tails: &mut [u16; ARCS],
+    heads: &mut [u16; ARCS],
+    weights: &mut [u32; ARCS],
+    forward: &mut [i32; NODES],
+    backward: &mut [i32; NODES],
+    room: &mut [u8; ROOM],
 ) -> Speaker
     requires { ⌜ Sits speaker (lists (now line) (now tails) (now heads) (now weights) (now forward) (now backward)) (now chunk) (now room) ⌝ }
     requires { ⌜ CameWithin did (length (now chunk)) ⌝ }
@@ -351,7 +351,7 @@ fn say(part: &[u8]) -> Did
 }
 
 // Asks the system for what the talk asks. Where that is to stop, nothing happens.
-fn ask_system(ask: Ask, speaker: Speaker, chunk: &mut [u8], room: &[u8]) -> Did
+fn ask_system(ask: Ask, speaker: Speaker, chunk: &mut [u8; CHUNK], room: &[u8; ROOM]) -> Did
     requires { ⌜ OwedWithin speaker (now room) ⌝ }
     ensures { λ r. ⌜ Answers ask speaker r (now (chunk .entry)) (now (chunk .exit)) ⌝ }
 {

@@ -24,13 +24,10 @@ enum-told-3 : tie.Need-enum-told-3
 enum-told-3 c = search needs
 
 returns : tie.Need-returns
-returns c = rw (c .before .before .enum-told .given .1) (answers-write _ _ _ _ _ (c .before .before .before .before .before .before .pre) (c .before .owed .ensures) (c .say .ensures))
-
-same-length : tie.Need-same-length
-same-length c = search needs
+returns c = rw (c .before .before .before .enum-told .given .1) (answers-write _ _ _ _ _ (c .before .before .before .before .before .pre) (c .before .owed .ensures) (c .say .ensures))
 
 returns-2 : tie.Need-returns-2
-returns-2 c = rw (c .before .before .before .before .enum-told2 .given .1) (answers-read _ _ _ _ (omega (arith, c .before .before .hear .kept)) (c .before .before .hear .ensures))
+returns-2 c = rw (c .before .before .enum-told2 .given .1) (answers-read _ _ _ _ (omega (arith, c .hear .kept)) (c .hear .ensures))
 
 returns-3 : tie.Need-returns-3
 returns-3 c = rw (c .enum-told3 .given .1) (answers-nothing _ _ _)
@@ -46,6 +43,5 @@ ask-system-spec =
     hear-requires
     enum-told-3
     returns
-    same-length
     returns-2
     returns-3)

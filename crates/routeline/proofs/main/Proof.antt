@@ -1,126 +1,86 @@
+-- `routeline::main` meets its contract. The loop's invariant is `Holds`: the talk that the program holds is one that can come to
+-- pass, from its beginning on, by what was read and written. What the system does is an event that can come of what was asked,
+-- and each event keeps it. The measure is the count of what may still be asked. Assumes nothing.
+use mathlib.Core.Path.{_≡_}
+use mathlib.Core.Logic.{_⊎_, ⊎-elim}
+use native.Mathlib.Omega.{arith}
+use native.Mathlib.Nat.{le-refl}
+use denote.Enum.Declared.{tagOf}
+use borrow.Author.Needs.{needs}
+use Rattle.district.specs.Reader.{lists}
+use Rattle.routeline.specs.declared.Ask.{Ask}
+use Rattle.routeline.specs.declared.Ask.the-variants.{Write, Read, Stop}
+use Rattle.routeline.specs.TalkLaws.{never}
+use Rattle.routeline.specs.SpeakerLaws.{Holds, Ready, holds-start, ready, holds-on}
+use Rattle.routeline.proofs.Ask.{the-type}
 use Rattle.routeline.proofs.main.Statement.{statement}
 use Rattle.routeline.proofs.main.Tie as tie
-use Rattle.routeline.proofs.main.Reads as reads
-use Rattle.routeline.proofs.main.Lts as lts
-use Rattle.io.proofs.write_all.Reads as write-all-reads
-use Rattle.os.proofs.arg_count.Reads as arg-count-reads
-use Rattle.routeline.proofs.after.Reads as after-reads
-use Rattle.routeline.proofs.ask_system.Reads as ask-system-reads
-use Rattle.routeline.proofs.asks.Reads as asks-reads
-use Rattle.routeline.proofs.begin.Reads as begin-reads
-use Rattle.routeline.proofs.explain.Reads as explain-reads
+
+-- what the test for a stop leaves is none
+not-stop : (ask : Ask) → (tagOf the-type ask ≡ 0) ⊎ (tagOf the-type ask ≡ 1) → ask ≡ Stop → ⊥
+not-stop Write k e = never (cc)
+not-stop Read k e = never (cc)
+not-stop Stop k e = ⊎-elim (λ x. omega arith) (λ x. omega arith) k
 
 abbrev Inv-loop : tie.InvT-loop
 Inv-loop line₀ tails₀ heads₀ weights₀ forward₀ backward₀ chunk₀ room₀ speaker₀ left₀ t13 line tails heads weights forward backward chunk room speaker left =
-    ?
+    Holds speaker (lists line tails heads weights forward backward) chunk room
 
 abbrev μ-loop : tie.MeasureT-loop
 μ-loop line₀ tails₀ heads₀ weights₀ forward₀ backward₀ chunk₀ room₀ speaker₀ left₀ t13 line tails heads weights forward backward chunk room speaker left =
-    ?
+    left
 
--- src/main.rt:363:8
 arg-count-requires : tie.Need-arg-count-requires Inv-loop μ-loop
-arg-count-requires c κs = ?
+arg-count-requires c κs = tt
 
--- src/main.rt:364:9
 explain-requires : tie.Need-explain-requires Inv-loop μ-loop
-explain-requires c κs = ?
+explain-requires c κs = tt
 
--- src/main.rt:365:9
 returns : tie.Need-returns Inv-loop μ-loop
-returns c = ?
+returns c = tt
 
--- src/main.rt:375:9
 begin-requires : tie.Need-begin-requires Inv-loop μ-loop
-begin-requires c κs = ?
+begin-requires c κs = tt
 
--- src/main.rt:377:5
 loop-holds : tie.Need-loop-holds Inv-loop μ-loop
-loop-holds c = ?
+loop-holds c = holds-start _ _ _ _ (c .begin .ensures) (record { for-line = le-refl _; for-tails = le-refl _; for-heads = le-refl _; for-weights = le-refl _; for-forward = le-refl _; for-backward = le-refl _ }) (le-refl _)
 
--- src/main.rt:378:13
 asks-requires : tie.Need-asks-requires Inv-loop μ-loop
-asks-requires c κs = ?
+asks-requires c κs = tt
 
--- src/main.rt:380:13
 enum-told : tie.Need-enum-told Inv-loop μ-loop
-enum-told c = ?
+enum-told c = search needs
 
--- src/main.rt:380:13
 returns-2 : tie.Need-returns-2 Inv-loop μ-loop
-returns-2 c = ?
+returns-2 c = tt
 
--- src/main.rt:382:44
-slice-aggregate-ask-system : tie.Need-slice-aggregate-ask-system Inv-loop μ-loop
-slice-aggregate-ask-system c = ?
-
--- src/main.rt:382:56
-slice-aggregate-ask-system-2 : tie.Need-slice-aggregate-ask-system-2 Inv-loop μ-loop
-slice-aggregate-ask-system-2 c = ?
-
--- src/main.rt:382:13
 ask-system-requires : tie.Need-ask-system-requires Inv-loop μ-loop
-ask-system-requires c κs = ?
+ask-system-requires c κs = c .before .before .before .before .before .loop .inv .sits .owed-there
 
--- src/main.rt:386:13
-slice-aggregate-after : tie.Need-slice-aggregate-after Inv-loop μ-loop
-slice-aggregate-after c = ?
-
--- src/main.rt:387:13
-slice-aggregate-after-2 : tie.Need-slice-aggregate-after-2 Inv-loop μ-loop
-slice-aggregate-after-2 c = ?
-
--- src/main.rt:388:13
-slice-aggregate-after-3 : tie.Need-slice-aggregate-after-3 Inv-loop μ-loop
-slice-aggregate-after-3 c = ?
-
--- src/main.rt:389:13
-slice-aggregate-after-4 : tie.Need-slice-aggregate-after-4 Inv-loop μ-loop
-slice-aggregate-after-4 c = ?
-
--- src/main.rt:390:13
-slice-aggregate-after-5 : tie.Need-slice-aggregate-after-5 Inv-loop μ-loop
-slice-aggregate-after-5 c = ?
-
--- src/main.rt:391:13
-slice-aggregate-after-6 : tie.Need-slice-aggregate-after-6 Inv-loop μ-loop
-slice-aggregate-after-6 c = ?
-
--- src/main.rt:392:13
-slice-aggregate-after-7 : tie.Need-slice-aggregate-after-7 Inv-loop μ-loop
-slice-aggregate-after-7 c = ?
-
--- src/main.rt:393:13
-slice-aggregate-after-8 : tie.Need-slice-aggregate-after-8 Inv-loop μ-loop
-slice-aggregate-after-8 c = ?
-
--- src/main.rt:383:9
 after-requires : tie.Need-after-requires Inv-loop μ-loop
-after-requires c κs = ?
+after-requires c κs =
+    let next = ready _ _ _ _ (c .before .before .before .before .before .before .before .before .before .before .before .before .before .before .loop .inv) _ _ _ (c .before .before .before .before .before .before .before .before .before .before .before .before .asks .ensures) (not-stop _ (c .before .before .before .before .before .before .before .before .before .before .before .match .keys2)) (c .before .before .before .before .before .before .before .before .ask-system .ensures) in
+    (next .holds .sits, (next .came-within, next .went-within))
 
--- src/main.rt:395:9
 sub-left : tie.Need-sub-left Inv-loop μ-loop
-sub-left c = ?
+sub-left c = omega (arith, c .before .before .before .before .before .before .before .before .before .before .before .before .before .before .loop-test .taken)
 
--- src/main.rt:377:5
 loop-less : tie.Need-loop-less Inv-loop μ-loop
-loop-less c = ?
+loop-less c = omega (arith, c .before .before .before .before .before .before .before .before .before .before .before .before .before .before .loop-test .taken)
 
--- src/main.rt:377:5
 loop-again : tie.Need-loop-again Inv-loop μ-loop
-loop-again c = ?
+loop-again c =
+    let next = ready _ _ _ _ (c .before .before .before .before .before .before .before .before .before .before .before .before .before .before .before .loop .inv) _ _ _ (c .before .before .before .before .before .before .before .before .before .before .before .before .before .asks .ensures) (not-stop _ (c .before .before .before .before .before .before .before .before .before .before .before .before .match .keys2)) (c .before .before .before .before .before .before .before .before .before .ask-system .ensures) in
+    holds-on _ _ _ _ _ next _ _ _ (c .after .ensures)
 
--- src/main.rt:399:9
 slice-aggregate-write-all : tie.Need-slice-aggregate-write-all Inv-loop μ-loop
-slice-aggregate-write-all c = ?
+slice-aggregate-write-all c = search needs
 
--- src/main.rt:397:5
 write-all-requires : tie.Need-write-all-requires Inv-loop μ-loop
-write-all-requires c κs = ?
+write-all-requires c κs = tt
 
--- src/main.rt:362:1
 returns-3 : tie.Need-returns-3 Inv-loop μ-loop
-returns-3 c = ?
+returns-3 c = tt
 
 pub main-spec : {M : Type 1} → statement M
 main-spec =
@@ -136,17 +96,7 @@ main-spec =
     asks-requires
     enum-told
     returns-2
-    slice-aggregate-ask-system
-    slice-aggregate-ask-system-2
     ask-system-requires
-    slice-aggregate-after
-    slice-aggregate-after-2
-    slice-aggregate-after-3
-    slice-aggregate-after-4
-    slice-aggregate-after-5
-    slice-aggregate-after-6
-    slice-aggregate-after-7
-    slice-aggregate-after-8
     after-requires
     sub-left
     loop-less
