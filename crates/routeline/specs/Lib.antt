@@ -1,2 +1,4 @@
-pub mod Part
-pub mod PartLaws
+pub mod Talk
+pub mod TalkLaws
+pub mod Speaker
+pub mod SpeakerLaws

@@ -1,13 +1,16 @@
 // Program `routeline`: a district file on standard input, its answer lines on standard output (docs/RULES.md, "The program").
-// All that matters is done by `district`, byte by byte; what is here reads the bytes as they come and writes the answers
-// before it reads again, so a person who types a query sees its answer at once. The memory is fixed: the lists of `main`.
-// No contract can say what is read and written, so the work is in functions over lists, `answer_part` above all: what it
-// leaves in the room is what the definition prints for the bytes that it took.
-ghost use Prim.Native.Nat.{_≤_};
+// The program is a talk with the system. What it asks next, and what the system's answer changes, is decided by functions over
+// numbers and lists, each under a contract (specs/Talk.antt): nothing is read while something is owed, and an answer is written
+// before a further byte is looked at. What no contract can reach is small and stands at the end: `hear` and `say`, which call
+// the system, the words for people, and `main`. The memory is fixed: the lists of `main`.
+ghost use mathlib.Core.Path.{_≡_};
 ghost use lib.ListN.{length};
-ghost use Rattle.district.specs.Reader.{lists, fileOf, Kept, Reached, mostBytes};
-ghost use Rattle.routeline.specs.Part.{Answers, Passes};
+ghost use lib.Seq.{slice};
+ghost use Rattle.district.specs.Reader.{lists, Reached};
+ghost use Rattle.routeline.specs.Talk.{look as talkLook, after as talkAfter};
+ghost use Rattle.routeline.specs.Speaker.{talkOf, OwedWithin, Sits, Stands, startSpeaker, eventOf, unmovedBy, readingOf, writingOf, CameWithin, WentWithin, ReadDid, WriteDid, AsksAs, Answers, looksOn, TellsAs};
 use district::Reader;
+use libc::STDERR_FILENO;
 use libc::STDIN_FILENO;
 use libc::STDOUT_FILENO;
 
@@ -18,73 +21,213 @@ const ARCS: usize = network::MOST_ARCS;
 
 const NODES: usize = network::MOST_NODES as usize;
 
-// The bytes of the longest answer.
-const ANSWER: usize = district::MOST_BYTES;
-
 // The bytes of one read, at the most.
 const CHUNK: usize = 16384;
 
-// The room in which answers gather before they are written: at least seven, and many more where they are short.
-const ROOM: usize = 65536;
+// The room in which an answer stands until it is written: the bytes of the longest.
+const ROOM: usize = district::MOST_BYTES;
 
-// The reader after a part of the input, how many bytes of it were taken, and how many bytes of the room hold their answers.
-struct Answered {
+// How far the talk is: the input goes on, it has ended, or a read or a write has failed.
+enum Stage {
+    Listening,
+    AllHeard,
+    CutShort,
+}
+
+// Where the talk stands: the reader of the file; the bytes of the chunk that are read and not yet looked at, from `from` up to
+// `got`; the bytes of the room that are not yet written, from `done` up to `written`; and the stage.
+struct Speaker {
     reader: Reader,
-    taken: usize,
+    from: usize,
+    got: usize,
+    done: usize,
     written: usize,
+    stage: Stage,
 }
 
-// The reader after a read, and whether the input goes on.
-struct Heard {
-    reader: Reader,
-    open: bool,
+// What is asked of the system next.
+enum Ask {
+    Write,
+    Read,
+    Stop,
 }
 
-// Takes bytes of a part of the input and gathers their answers in the room, as long as the room has space for one more answer.
-fn answer_part(
-    reader: Reader,
-    part: &[u8],
-    line: &mut [u8],
-    tails: &mut [u16],
-    heads: &mut [u16],
-    weights: &mut [u32],
-    forward: &mut [i32],
-    backward: &mut [i32],
-    room: &mut [u8],
-) -> Answered
-    requires { ⌜ Kept reader (lists (now line) (now tails) (now heads) (now weights) (now forward) (now backward)) ⌝ }
-    requires { ⌜ mostBytes ≤ length (now room) ⌝ }
-    ensures { λ r. ⌜ Answers (fileOf reader (lists (now (line .entry)) (now (tails .entry)) (now (heads .entry)) (now (weights .entry)) (now (forward .entry)) (now (backward .entry)))) (now (part .entry)) r (lists (now (line .exit)) (now (tails .exit)) (now (heads .exit)) (now (weights .exit)) (now (forward .exit)) (now (backward .exit))) (now (room .exit)) ⌝ }
+// What the system did: it read so many bytes, found the end of the input, wrote so many bytes, was interrupted, would have had to
+// wait, or failed.
+enum Did {
+    Came(usize),
+    Ended,
+    Went(usize),
+    Interrupted,
+    WouldWait,
+    Failed,
+}
+
+// The talk before anything is read: the file may have many queries, and its first line is line 1.
+fn begin() -> Speaker
+    ensures { λ r. ⌜ r ≡ startSpeaker ⌝ }
 {
-    let mut here = reader;
-    let mut at: usize = 0;
-    let mut written: usize = 0;
-    while at < part.len() && ANSWER <= room.len() - written {
-        let step = district::take_byte(
-            here,
-            part[at],
-            line,
-            tails,
-            heads,
-            weights,
-            forward,
-            backward,
-            &mut room[written..],
-        );
-        here = step.reader;
-        at += 1;
-        written += step.written;
-    }
-    Answered {
-        reader: here,
-        taken: at,
-        written,
+    let reader = district::start(false, 1);
+    let stage = Stage::Listening;
+    Speaker {
+        reader,
+        from: 0,
+        got: 0,
+        done: 0,
+        written: 0,
+        stage,
     }
 }
 
-// Answers all bytes of a chunk of the input: part by part, each part's answers written before the next part is taken.
-fn answer_chunk(
-    reader: Reader,
+// What is owed is written before anything else. Then the next bytes are read, unless there is nothing more to hear.
+fn asks(speaker: Speaker) -> Ask
+    ensures { λ r. ⌜ AsksAs speaker r ⌝ }
+{
+    if speaker.done < speaker.written {
+        return Ask::Write;
+    }
+    let reader = speaker.reader;
+    let stage = speaker.stage;
+    match stage {
+        Stage::Listening => {
+            if reader.going {
+                return Ask::Read;
+            }
+            Ask::Stop
+        }
+        Stage::AllHeard => Ask::Stop,
+        Stage::CutShort => Ask::Stop,
+    }
+}
+
+// The bytes that are owed.
+fn owed(speaker: Speaker, room: &[u8]) -> &[u8]
+    requires { ⌜ OwedWithin speaker (now room) ⌝ }
+    ensures { λ r. ⌜ now r ≡ slice (speaker .done) (speaker .written) (now (room .entry)) ⌝ }
+{
+    let done = speaker.done;
+    let written = speaker.written;
+    &room[done..written]
+}
+
+// Why a call moved nothing, by the system's number of the error.
+fn unmoved(error: i32) -> Did
+    ensures { λ r. ⌜ r ≡ unmovedBy error ⌝ }
+{
+    if error == libc::EINTR {
+        return Did::Interrupted;
+    }
+    if error == libc::EAGAIN {
+        return Did::WouldWait;
+    }
+    Did::Failed
+}
+
+// What a read did that answered this: 0 is the end of the input.
+fn reading(got: isize, error: i32, chunk: &[u8]) -> Did
+    ensures { λ r. ⌜ r ≡ readingOf got error (length (now (chunk .entry))) ⌝ }
+{
+    if got < 0 {
+        return unmoved(error);
+    }
+    if got == 0 {
+        return Did::Ended;
+    }
+    let n = io::count(got, chunk);
+    Did::Came(n)
+}
+
+// What a write did that answered this: one that took nothing is tried again.
+fn writing(put: isize, error: i32, part: &[u8]) -> Did
+    ensures { λ r. ⌜ r ≡ writingOf put error (length (now (part .entry))) ⌝ }
+{
+    if put < 0 {
+        return unmoved(error);
+    }
+    if put == 0 {
+        return Did::WouldWait;
+    }
+    let n = io::count(put, part);
+    Did::Went(n)
+}
+
+// The end of the input: what it prints is owed.
+fn ended(speaker: Speaker, room: &mut [u8]) -> Speaker
+    requires { ⌜ Reached (speaker .reader) ⌝ }
+    ensures { λ r. ⌜ TellsAs speaker Did.Ended r (now (room .entry)) (now (room .exit)) ⌝ }
+{
+    let reader = speaker.reader;
+    let written = district::end_of_input(reader, room);
+    let stage = Stage::AllHeard;
+    Speaker {
+        reader,
+        from: speaker.from,
+        got: speaker.got,
+        done: 0,
+        written,
+        stage,
+    }
+}
+
+// The speaker after what the system did, before anything more is looked at. After a failure nothing is owed, and nothing is left
+// to look at.
+fn told(speaker: Speaker, did: Did, room: &mut [u8]) -> Speaker
+    requires { ⌜ Reached (speaker .reader) ⌝ }
+    requires { ⌜ WentWithin speaker did ⌝ }
+    ensures { λ r. ⌜ TellsAs speaker did r (now (room .entry)) (now (room .exit)) ⌝ }
+{
+    let reader = speaker.reader;
+    let stage = speaker.stage;
+    match did {
+        Did::Came(n) => Speaker {
+            reader,
+            from: 0,
+            got: n,
+            done: speaker.done,
+            written: speaker.written,
+            stage,
+        },
+        Did::Ended => ended(speaker, room),
+        Did::Went(n) => Speaker {
+            reader,
+            from: speaker.from,
+            got: speaker.got,
+            done: speaker.done + n,
+            written: speaker.written,
+            stage,
+        },
+        Did::Interrupted => speaker,
+        Did::WouldWait => speaker,
+        Did::Failed => {
+            let failed = Stage::CutShort;
+            Speaker {
+                reader,
+                from: 0,
+                got: 0,
+                done: 0,
+                written: 0,
+                stage: failed,
+            }
+        }
+    }
+}
+
+// Whether a byte is looked at: there is one, nothing is owed, and no refusal has ended the file.
+fn looks_on(reader: Reader, from: usize, got: usize, done: usize, written: usize) -> bool
+    ensures { λ r. ⌜ r ≡ looksOn reader from got done written ⌝ }
+{
+    if from < got {
+        if done == written {
+            return reader.going;
+        }
+    }
+    false
+}
+
+// Looks at the bytes that are read, one after the other, up to the one that prints something. Where something is owed, or a
+// refusal has ended the file, no byte is looked at.
+fn look(
+    speaker: Speaker,
     chunk: &[u8],
     line: &mut [u8],
     tails: &mut [u16],
@@ -93,17 +236,19 @@ fn answer_chunk(
     forward: &mut [i32],
     backward: &mut [i32],
     room: &mut [u8],
-) -> Reader
-    requires { ⌜ Kept reader (lists (now line) (now tails) (now heads) (now weights) (now forward) (now backward)) ⌝ }
-    requires { ⌜ mostBytes ≤ length (now room) ⌝ }
-    ensures { λ r. ⌜ Passes (fileOf reader (lists (now (line .entry)) (now (tails .entry)) (now (heads .entry)) (now (weights .entry)) (now (forward .entry)) (now (backward .entry)))) (now (chunk .entry)) r (lists (now (line .exit)) (now (tails .exit)) (now (heads .exit)) (now (weights .exit)) (now (forward .exit)) (now (backward .exit))) ⌝ }
+) -> Speaker
+    requires { ⌜ Sits speaker (lists (now line) (now tails) (now heads) (now weights) (now forward) (now backward)) (now chunk) (now room) ⌝ }
+    ensures { λ r. ⌜ Stands (talkLook (talkOf speaker (lists (now (line .entry)) (now (tails .entry)) (now (heads .entry)) (now (weights .entry)) (now (forward .entry)) (now (backward .entry))) (now (chunk .entry)) (now (room .entry)))) r (lists (now (line .exit)) (now (tails .exit)) (now (heads .exit)) (now (weights .exit)) (now (forward .exit)) (now (backward .exit))) (now (chunk .entry)) (now (room .exit)) ⌝ }
 {
-    let mut here = reader;
-    let mut from: usize = 0;
-    while from < chunk.len() {
-        let done = answer_part(
-            here,
-            &chunk[from..],
+    let mut reader = speaker.reader;
+    let mut from = speaker.from;
+    let got = speaker.got;
+    let mut done = speaker.done;
+    let mut written = speaker.written;
+    while looks_on(reader, from, got, done, written) {
+        let step = district::take_byte(
+            reader,
+            chunk[from],
             line,
             tails,
             heads,
@@ -112,17 +257,27 @@ fn answer_chunk(
             backward,
             room,
         );
-        here = done.reader;
-        from += done.taken;
-        let written = done.written;
-        io::write_all(STDOUT_FILENO, &room[..written]);
+        reader = step.reader;
+        from += 1;
+        done = 0;
+        written = step.written;
     }
-    here
+    let stage = speaker.stage;
+    Speaker {
+        reader,
+        from,
+        got,
+        done,
+        written,
+        stage,
+    }
 }
 
-// Reads once and answers what came. A read that fails counts as the end of the input.
-fn hear(
-    reader: Reader,
+// The speaker after what the system did.
+fn after(
+    speaker: Speaker,
+    did: Did,
+    chunk: &[u8; CHUNK],
     line: &mut [u8; DIGITS],
     tails: &mut [u16; ARCS],
     heads: &mut [u16; ARCS],
@@ -130,22 +285,16 @@ fn hear(
     forward: &mut [i32; NODES],
     backward: &mut [i32; NODES],
     room: &mut [u8; ROOM],
-) -> Heard
-    requires { ⌜ Kept reader (lists (now line) (now tails) (now heads) (now weights) (now forward) (now backward)) ⌝ }
-    ensures { λ r. ⌜ Kept (r .reader) (lists (now (line .exit)) (now (tails .exit)) (now (heads .exit)) (now (weights .exit)) (now (forward .exit)) (now (backward .exit))) ⌝ }
+) -> Speaker
+    requires { ⌜ Sits speaker (lists (now line) (now tails) (now heads) (now weights) (now forward) (now backward)) (now chunk) (now room) ⌝ }
+    requires { ⌜ CameWithin did (length (now chunk)) ⌝ }
+    requires { ⌜ WentWithin speaker did ⌝ }
+    ensures { λ r. ⌜ Stands (talkAfter (talkOf speaker (lists (now (line .entry)) (now (tails .entry)) (now (heads .entry)) (now (weights .entry)) (now (forward .entry)) (now (backward .entry))) (now (chunk .entry)) (now (room .entry))) (eventOf did (now (chunk .entry)))) r (lists (now (line .exit)) (now (tails .exit)) (now (heads .exit)) (now (weights .exit)) (now (forward .exit)) (now (backward .exit))) (now (chunk .entry)) (now (room .exit)) ⌝ }
 {
-    let mut chunk = [0u8; CHUNK];
-    let got = libc::read(STDIN_FILENO, &mut chunk);
-    if got <= 0 {
-        return Heard {
-            reader,
-            open: false,
-        };
-    }
-    let n = io::count(got, &chunk);
-    let after = answer_chunk(
-        reader,
-        &chunk[..n],
+    let next = told(speaker, did, room);
+    look(
+        next,
+        chunk,
         line,
         tails,
         heads,
@@ -153,38 +302,106 @@ fn hear(
         forward,
         backward,
         room,
-    );
-    Heard {
-        reader: after,
-        open: true,
+    )
+}
+
+// Waits a little before a call is made again that would have had to wait.
+fn pause() {
+    libc::sched_yield();
+}
+
+// A call that would have had to wait is made again after a pause; one that failed is told on standard error, with the system's
+// reason.
+fn tell(did: Did, words: &[u8]) {
+    if let Did::Failed = did {
+        os::fail(words);
+        return;
+    }
+    if let Did::WouldWait = did {
+        pause();
     }
 }
 
-// Writes what the end of input prints, which fits in the room of one answer.
-fn finish(reader: Reader)
-    requires { ⌜ Reached reader ⌝ }
+// Reads once.
+fn hear(chunk: &mut [u8]) -> Did
+    ensures { λ r. ⌜ ReadDid (length (now (chunk .exit))) r ⌝ }
 {
-    let mut room = [0u8; ANSWER];
-    let written = district::end_of_input(reader, &mut room);
-    io::write_all(STDOUT_FILENO, &room[..written]);
+    let got = libc::read(STDIN_FILENO, chunk);
+    let error = os::errno();
+    let did = reading(got, error, chunk);
+    tell(
+        did,
+        b"routeline: the file is cut short, standard input cannot be read",
+    );
+    did
 }
 
-// Reads until the input ends or a refusal ends the file, and then gives what the end of input prints. A file ends at line
-// 4,294,967,295 at the latest, so it is over long before the count of reads is.
+// Writes once.
+fn say(part: &[u8]) -> Did
+    ensures { λ r. ⌜ WriteDid (length (now (part .entry))) r ⌝ }
+{
+    let put = libc::write(STDOUT_FILENO, part);
+    let error = os::errno();
+    let did = writing(put, error, part);
+    tell(
+        did,
+        b"routeline: the answers are cut short, standard output cannot be written",
+    );
+    did
+}
+
+// Asks the system for what the talk asks. Where that is to stop, nothing happens.
+fn ask_system(ask: Ask, speaker: Speaker, chunk: &mut [u8; CHUNK], room: &[u8; ROOM]) -> Did
+    requires { ⌜ OwedWithin speaker (now room) ⌝ }
+    ensures { λ r. ⌜ Answers ask speaker r (now (chunk .entry)) (now (chunk .exit)) ⌝ }
+{
+    match ask {
+        Ask::Write => {
+            let part = owed(speaker, room);
+            say(part)
+        }
+        Ask::Read => hear(chunk),
+        Ask::Stop => Did::Interrupted,
+    }
+}
+
+// What the program is and how it is called, for whoever gives it an argument.
+fn explain() {
+    io::write_all(
+        STDERR_FILENO,
+        b"routeline answers route queries: a district file on standard input, its answer lines on standard output.
+usage: routeline < FILE
+It takes no arguments. README.md says what a file holds and what the answers mean, docs/RULES.md gives the rules.
+",
+    );
+}
+
+// Asks until the talk asks to stop. The count of asks is none that a talk can use up; were it used up, that would be told.
 fn main() {
+    if os::arg_count() > 1 {
+        explain();
+        return;
+    }
     let mut line = [0u8; DIGITS];
     let mut tails = [0u16; ARCS];
     let mut heads = [0u16; ARCS];
     let mut weights = [0u32; ARCS];
     let mut forward = [0i32; NODES];
     let mut backward = [0i32; NODES];
+    let mut chunk = [0u8; CHUNK];
     let mut room = [0u8; ROOM];
-    let mut reader = district::start(false, 1);
-    let mut open = true;
-    let mut reads = u64::MAX;
-    while reads > 0 && open && reader.going {
-        let heard = hear(
-            reader,
+    let mut speaker = begin();
+    let mut left = u64::MAX;
+    while left > 0 {
+        let ask = asks(speaker);
+        if let Ask::Stop = ask {
+            return;
+        }
+        let did = ask_system(ask, speaker, &mut chunk, &room);
+        speaker = after(
+            speaker,
+            did,
+            &chunk,
             &mut line,
             &mut tails,
             &mut heads,
@@ -193,9 +410,10 @@ fn main() {
             &mut backward,
             &mut room,
         );
-        reader = heard.reader;
-        open = heard.open;
-        reads -= 1;
+        left -= 1;
     }
-    finish(reader);
+    io::write_all(
+        STDERR_FILENO,
+        b"routeline: the answers are cut short, the system was asked too often\n",
+    );
 }

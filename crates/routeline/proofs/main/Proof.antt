@@ -1,43 +1,86 @@
--- `routeline::main` meets its contract. The loop's invariant: the next step may follow. The measure is the count of reads.
--- Assumes nothing.
+-- `routeline::main` meets its contract. The loop's invariant is `Holds`: the talk that the program holds is one that can come to
+-- pass, from its beginning on, by what was read and written. What the system does is an event that can come of what was asked,
+-- and each event keeps it. The measure is the count of what may still be asked. Assumes nothing.
+use mathlib.Core.Path.{_≡_}
+use mathlib.Core.Logic.{_⊎_, ⊎-elim}
 use native.Mathlib.Omega.{arith}
 use native.Mathlib.Nat.{le-refl}
-use Rattle.district.specs.Reader.{lists, Kept}
-use Rattle.routeline.specs.PartLaws.{started}
+use denote.Enum.Declared.{tagOf}
+use borrow.Author.Needs.{needs}
+use Rattle.district.specs.Reader.{lists}
+use Rattle.routeline.specs.declared.Ask.{Ask}
+use Rattle.routeline.specs.declared.Ask.the-variants.{Write, Read, Stop}
+use Rattle.routeline.specs.TalkLaws.{never}
+use Rattle.routeline.specs.SpeakerLaws.{Holds, Ready, holds-start, ready, holds-on}
+use Rattle.routeline.proofs.Ask.{the-type}
 use Rattle.routeline.proofs.main.Statement.{statement}
 use Rattle.routeline.proofs.main.Tie as tie
 
+-- what the test for a stop leaves is none
+not-stop : (ask : Ask) → (tagOf the-type ask ≡ 0) ⊎ (tagOf the-type ask ≡ 1) → ask ≡ Stop → ⊥
+not-stop Write k e = never (cc)
+not-stop Read k e = never (cc)
+not-stop Stop k e = ⊎-elim (λ x. omega arith) (λ x. omega arith) k
+
 abbrev Inv-loop : tie.InvT-loop
-Inv-loop line₀ tails₀ heads₀ weights₀ forward₀ backward₀ room₀ reader₀ open₀ reads₀ line tails heads weights forward backward room reader «open» reads =
-    Kept reader (lists line tails heads weights forward backward)
+Inv-loop line₀ tails₀ heads₀ weights₀ forward₀ backward₀ chunk₀ room₀ speaker₀ left₀ t13 line tails heads weights forward backward chunk room speaker left =
+    Holds speaker (lists line tails heads weights forward backward) chunk room
 
 abbrev μ-loop : tie.MeasureT-loop
-μ-loop line₀ tails₀ heads₀ weights₀ forward₀ backward₀ room₀ reader₀ open₀ reads₀ line tails heads weights forward backward room reader «open» reads =
-    reads
+μ-loop line₀ tails₀ heads₀ weights₀ forward₀ backward₀ chunk₀ room₀ speaker₀ left₀ t13 line tails heads weights forward backward chunk room speaker left =
+    left
 
-start-requires : tie.Need-start-requires Inv-loop μ-loop
-start-requires c κs = tt
+arg-count-requires : tie.Need-arg-count-requires Inv-loop μ-loop
+arg-count-requires c κs = tt
 
-loop-holds : tie.Need-loop-holds Inv-loop μ-loop
-loop-holds c = started _ _ _ _ (c .start .ensures) (record { for-line = le-refl _; for-tails = le-refl _; for-heads = le-refl _; for-weights = le-refl _; for-forward = le-refl _; for-backward = le-refl _ })
-
-hear-requires : tie.Need-hear-requires Inv-loop μ-loop
-hear-requires c κs = c .before .before .before .before .before .before .before .before .before .before .loop .inv
-
-sub-reads : tie.Need-sub-reads Inv-loop μ-loop
-sub-reads c = omega (arith, c .before .before .before .before .before .before .before .before .before .before .before .loop-test .taken)
-
-loop-less : tie.Need-loop-less Inv-loop μ-loop
-loop-less c = omega (arith, c .before .before .before .before .before .before .before .before .before .before .before .loop-test .taken)
-
-loop-again : tie.Need-loop-again Inv-loop μ-loop
-loop-again c = c .before .hear .ensures
-
-finish-requires : tie.Need-finish-requires Inv-loop μ-loop
-finish-requires c κs = record { over = _; kept = c .before .loop .inv }
+explain-requires : tie.Need-explain-requires Inv-loop μ-loop
+explain-requires c κs = tt
 
 returns : tie.Need-returns Inv-loop μ-loop
 returns c = tt
+
+begin-requires : tie.Need-begin-requires Inv-loop μ-loop
+begin-requires c κs = tt
+
+loop-holds : tie.Need-loop-holds Inv-loop μ-loop
+loop-holds c = holds-start _ _ _ _ (c .begin .ensures) (record { for-line = le-refl _; for-tails = le-refl _; for-heads = le-refl _; for-weights = le-refl _; for-forward = le-refl _; for-backward = le-refl _ }) (le-refl _)
+
+asks-requires : tie.Need-asks-requires Inv-loop μ-loop
+asks-requires c κs = tt
+
+enum-told : tie.Need-enum-told Inv-loop μ-loop
+enum-told c = search needs
+
+returns-2 : tie.Need-returns-2 Inv-loop μ-loop
+returns-2 c = tt
+
+ask-system-requires : tie.Need-ask-system-requires Inv-loop μ-loop
+ask-system-requires c κs = c .before .before .before .before .before .loop .inv .sits .owed-there
+
+after-requires : tie.Need-after-requires Inv-loop μ-loop
+after-requires c κs =
+    let next = ready _ _ _ _ (c .before .before .before .before .before .before .before .before .before .before .before .before .before .before .loop .inv) _ _ _ (c .before .before .before .before .before .before .before .before .before .before .before .before .asks .ensures) (not-stop _ (c .before .before .before .before .before .before .before .before .before .before .before .match .keys2)) (c .before .before .before .before .before .before .before .before .ask-system .ensures) in
+    (next .holds .sits, (next .came-within, next .went-within))
+
+sub-left : tie.Need-sub-left Inv-loop μ-loop
+sub-left c = omega (arith, c .before .before .before .before .before .before .before .before .before .before .before .before .before .before .loop-test .taken)
+
+loop-less : tie.Need-loop-less Inv-loop μ-loop
+loop-less c = omega (arith, c .before .before .before .before .before .before .before .before .before .before .before .before .before .before .loop-test .taken)
+
+loop-again : tie.Need-loop-again Inv-loop μ-loop
+loop-again c =
+    let next = ready _ _ _ _ (c .before .before .before .before .before .before .before .before .before .before .before .before .before .before .before .loop .inv) _ _ _ (c .before .before .before .before .before .before .before .before .before .before .before .before .before .asks .ensures) (not-stop _ (c .before .before .before .before .before .before .before .before .before .before .before .before .match .keys2)) (c .before .before .before .before .before .before .before .before .before .ask-system .ensures) in
+    holds-on _ _ _ _ _ next _ _ _ (c .after .ensures)
+
+slice-aggregate-write-all : tie.Need-slice-aggregate-write-all Inv-loop μ-loop
+slice-aggregate-write-all c = search needs
+
+write-all-requires : tie.Need-write-all-requires Inv-loop μ-loop
+write-all-requires c κs = tt
+
+returns-3 : tie.Need-returns-3 Inv-loop μ-loop
+returns-3 c = tt
 
 pub main-spec : {M : Type 1} → statement M
 main-spec =
@@ -45,11 +88,19 @@ main-spec =
     (tie.spec
     Inv-loop
     μ-loop
-    start-requires
+    arg-count-requires
+    explain-requires
+    returns
+    begin-requires
     loop-holds
-    hear-requires
-    sub-reads
+    asks-requires
+    enum-told
+    returns-2
+    ask-system-requires
+    after-requires
+    sub-left
     loop-less
     loop-again
-    finish-requires
-    returns)
+    slice-aggregate-write-all
+    write-all-requires
+    returns-3)

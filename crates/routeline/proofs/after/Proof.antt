@@ -1,0 +1,21 @@
+-- `routeline::after` meets its contract: what is told and then looked at is what follows. Assumes nothing.
+use Rattle.routeline.specs.SpeakerLaws.{follows}
+use borrow.Author.Needs.{needs}
+use Rattle.routeline.proofs.after.Statement.{statement}
+use Rattle.routeline.proofs.after.Tie as tie
+
+told-requires : tie.Need-told-requires
+told-requires c κs = search needs
+
+look-requires : tie.Need-look-requires
+look-requires c κs =
+    let asked = c .before .before .before .before .before .before .before .before .before .before .pre in
+    c .before .before .before .before .before .before .before .before .told .ensures .law _ _ (asked .0) (asked .1 .0) .sits
+
+returns : tie.Need-returns
+returns c =
+    let asked = c .before .before .before .before .before .before .before .before .before .before .before .pre in
+    follows _ _ _ _ _ _ _ (asked .0) (asked .1 .0) (c .before .before .before .before .before .before .before .before .before .told .ensures) _ _ _ (c .look .ensures)
+
+pub after-spec : {M : Type 1} → statement M
+after-spec = tie.close (tie.spec told-requires look-requires returns)

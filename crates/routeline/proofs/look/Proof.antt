@@ -1,0 +1,98 @@
+-- `routeline::look` meets its contract. The loop's invariant is `LookUnderway`: looking on from here leads where looking on from the
+-- beginning does; and no list has changed its length. Each byte keeps it, and where no byte is looked at, looking on has ended.
+-- The measure is what is left of the bytes. Assumes nothing.
+use Prim.Native.Nat.{_-_}
+use mathlib.Core.Path.{sym, _∙_}
+use native.Mathlib.Omega.{arith}
+use Rattle.district.specs.Reader.{lists}
+use Rattle.routeline.specs.Speaker.{talkOf, speakerAt}
+use Rattle.routeline.specs.SpeakerLaws.{SameLengths, same-lengths, LookUnderway, look-start, looks-on-more, look-more, look-end}
+use Rattle.routeline.proofs.look.Statement.{statement}
+use Rattle.routeline.proofs.look.Tie as tie
+
+abbrev Inv-loop : tie.InvT-loop
+Inv-loop speaker chunk line₀ tails₀ heads₀ weights₀ forward₀ backward₀ room₀ reader₀ from₀ got done₀ written₀ line tails heads weights forward backward room reader from done written =
+    LookUnderway (talkOf speaker (lists line₀ tails₀ heads₀ weights₀ forward₀ backward₀) chunk room₀) (speakerAt reader from got done written (speaker .stage)) (lists line tails heads weights forward backward) chunk room
+    × SameLengths (lists line₀ tails₀ heads₀ weights₀ forward₀ backward₀) (lists line tails heads weights forward backward) room₀ room
+
+abbrev μ-loop : tie.MeasureT-loop
+μ-loop speaker chunk line₀ tails₀ heads₀ weights₀ forward₀ backward₀ room₀ reader₀ from₀ got done₀ written₀ line tails heads weights forward backward room reader from done written =
+    got - from
+
+loop-holds : tie.Need-loop-holds Inv-loop μ-loop
+loop-holds c = (look-start _ _ _ _ (c .before .before .before .before .before .before .before .pre), same-lengths _ _)
+
+looks-on-requires : tie.Need-looks-on-requires Inv-loop μ-loop
+looks-on-requires c κs = tt
+
+shared-slice-read-take-byte : tie.Need-shared-slice-read-take-byte Inv-loop μ-loop
+shared-slice-read-take-byte c =
+    let loop = c .before .before .before .loop in
+    let on = looks-on-more _ _ _ _ _ (sym (c .before .before .looks-on .ensures) ∙ c .before .if1 .taken) in
+    omega (arith, on .there, loop .inv .0 .sits .heard-within)
+
+take-byte-requires : tie.Need-take-byte-requires Inv-loop μ-loop
+take-byte-requires c κs = c .before .before .before .before .before .before .before .before .before .before .loop .inv .0 .sits .kept
+
+add-from : tie.Need-add-from Inv-loop μ-loop
+add-from c =
+    let loop = c .before .before .before .before .before .before .before .before .before .before .before .before .before .before .before .before .before .before .before .before .before .before .before .before .loop in
+    let on = looks-on-more _ _ _ _ _ (sym (c .before .before .before .before .before .before .before .before .before .before .before .before .before .before .before .before .before .before .before .before .before .before .before .looks-on .ensures) ∙ c .before .before .before .before .before .before .before .before .before .before .before .before .before .before .before .before .before .before .before .before .before .before .if1 .taken) in
+    omega (arith, on .there, loop .inv .0 .sits .heard-within, c .before .before .before .before .before .before .before .before .before .before .before .before .before .before .before .before .before .before .before .before .before .before .before .before .before .before .before .before .before .before .before .before .good)
+
+loop-less : tie.Need-loop-less Inv-loop μ-loop
+loop-less c =
+    let on = looks-on-more _ _ _ _ _ (sym (c .before .before .before .before .before .before .before .before .before .before .before .before .before .before .before .before .before .before .before .before .before .before .before .looks-on .ensures) ∙ c .before .before .before .before .before .before .before .before .before .before .before .before .before .before .before .before .before .before .before .before .before .before .if1 .taken) in
+    omega (arith, on .there)
+
+loop-again : tie.Need-loop-again Inv-loop μ-loop
+loop-again c =
+    let loop = c .before .before .before .before .before .before .before .before .before .before .before .before .before .before .before .before .before .before .before .before .before .before .before .before .loop in
+    let step = c .before .before .before .before .before .before .before .before .before .before .before .before .before .take-byte in
+    (look-more _ _ _ _ _ (loop .inv .0) (sym (c .before .before .before .before .before .before .before .before .before .before .before .before .before .before .before .before .before .before .before .before .before .before .before .looks-on .ensures) ∙ c .before .before .before .before .before .before .before .before .before .before .before .before .before .before .before .before .before .before .before .before .before .before .if1 .taken) _ _ _ (step .ensures), record { line = omega (arith, step .kept, loop .inv .1 .line); tails = omega (arith, step .kept, loop .inv .1 .tails); heads = omega (arith, step .kept, loop .inv .1 .heads); weights = omega (arith, step .kept, loop .inv .1 .weights); forward = omega (arith, step .kept, loop .inv .1 .forward); backward = omega (arith, step .kept, loop .inv .1 .backward); room-is = omega (arith, step .kept, loop .inv .1 .room-is) })
+
+same-length : tie.Need-same-length Inv-loop μ-loop
+same-length c = omega (arith, c .before .before .loop .inv .1 .line)
+
+same-length-2 : tie.Need-same-length-2 Inv-loop μ-loop
+same-length-2 c = omega (arith, c .before .before .loop .inv .1 .tails)
+
+same-length-3 : tie.Need-same-length-3 Inv-loop μ-loop
+same-length-3 c = omega (arith, c .before .before .loop .inv .1 .heads)
+
+same-length-4 : tie.Need-same-length-4 Inv-loop μ-loop
+same-length-4 c = omega (arith, c .before .before .loop .inv .1 .weights)
+
+same-length-5 : tie.Need-same-length-5 Inv-loop μ-loop
+same-length-5 c = omega (arith, c .before .before .loop .inv .1 .forward)
+
+same-length-6 : tie.Need-same-length-6 Inv-loop μ-loop
+same-length-6 c = omega (arith, c .before .before .loop .inv .1 .backward)
+
+same-length-7 : tie.Need-same-length-7 Inv-loop μ-loop
+same-length-7 c = omega (arith, c .before .before .loop .inv .1 .room-is)
+
+returns : tie.Need-returns Inv-loop μ-loop
+returns c = look-end _ _ _ _ _ (c .before .before .loop .inv .0) (sym (c .before .looks-on .ensures) ∙ c .if1 .left)
+
+pub look-spec : {M : Type 1} → statement M
+look-spec =
+    tie.close
+    (tie.spec
+    Inv-loop
+    μ-loop
+    loop-holds
+    looks-on-requires
+    shared-slice-read-take-byte
+    take-byte-requires
+    add-from
+    loop-less
+    loop-again
+    same-length
+    same-length-2
+    same-length-3
+    same-length-4
+    same-length-5
+    same-length-6
+    same-length-7
+    returns)

@@ -1,0 +1,41 @@
+-- `routeline::reading` meets its contract, case by case of what the read answered. Assumes nothing.
+use mathlib.Core.Path.{_≡_, _∙_}
+use mathlib.Core.Bool.{true, false}
+use lib.IntN.{pos}
+use lib.Signed.{ltZ}
+use lib.ListN.{length}
+use mir.Facts.{toZ-ofZ}
+use denote.Ref.{now}
+use Rattle.io.specs.Counts.{clamped}
+use Rattle.routeline.specs.Speaker.{unmovedBy}
+use Rattle.routeline.specs.declared.Did.the-variants.{Came, Ended}
+use Rattle.routeline.specs.SpeakerLaws.{answer-unmoved, answer-none, answer-some}
+use borrow.Author.Needs.{needs}
+use Rattle.routeline.proofs.reading.Statement.{statement}
+use Rattle.routeline.proofs.reading.Tie as tie
+
+unmoved-requires : tie.Need-unmoved-requires
+unmoved-requires c κs = search needs
+
+returns : tie.Need-returns
+returns c =
+    let below : ltZ (c .before .before .before .args .got) (pos 0) ≡ true = rw (toZ-ofZ (c .before .before .before .fits .got)) at (c .before .if1 .taken) in
+    let told : c .unmoved .result ≡ unmovedBy (c .before .before .before .args .error) = rw (toZ-ofZ (c .before .before .before .fits .error)) at (c .unmoved .ensures) in
+    told ∙ answer-unmoved Ended Came (c .before .before .before .args .got) (c .before .before .before .args .error) _ below
+
+returns-2 : tie.Need-returns-2
+returns-2 c =
+    let above : ltZ (c .before .before .before .args .got) (pos 0) ≡ false = rw (toZ-ofZ (c .before .before .before .fits .got)) at (c .before .if1 .left) in
+    answer-none Ended Came (c .before .before .before .args .got) (c .before .before .before .args .error) _ above (c .if2 .taken)
+
+count-requires : tie.Need-count-requires
+count-requires c κs = search needs
+
+returns-3 : tie.Need-returns-3
+returns-3 c =
+    let above : ltZ (c .before .before .before .before .args .got) (pos 0) ≡ false = rw (toZ-ofZ (c .before .before .before .before .fits .got)) at (c .before .before .if1 .left) in
+    let counted : c .count .result ≡ clamped (c .before .before .before .before .args .got) (length (now (c .before .before .before .before .args .chunk))) = rw (toZ-ofZ (c .before .before .before .before .fits .got)) at (c .count .ensures .1) in
+    answer-some Ended Came (c .before .before .before .before .args .got) (c .before .before .before .before .args .error) _ _ above (c .before .if2 .left) counted
+
+pub reading-spec : {M : Type 1} → statement M
+reading-spec = tie.close (tie.spec unmoved-requires returns returns-2 count-requires returns-3)
