@@ -17,7 +17,9 @@ array-share-prefix-room : tie.Need-array-share-prefix-room
 array-share-prefix-room c = omega (arith, placed-within (c .before .write-answer .ensures))
 
 slice-aggregate-text : tie.Need-slice-aggregate-text
-slice-aggregate-text c = sym (length-take-le _ _ (array-share-prefix-room (c .before)))
+slice-aggregate-text c =
+    let at-room2 = c .before in
+    sym (length-take-le _ _ (array-share-prefix-room at-room2))
 
 text-requires : tie.Need-text-requires
 text-requires c κs = search needs

@@ -20,7 +20,9 @@ array-share-prefix-entries : tie.Need-array-share-prefix-entries
 array-share-prefix-entries c = omega (arith, placed-within (c .before .before .pattern .ensures))
 
 slice-aggregate-states-2 : tie.Need-slice-aggregate-states-2
-slice-aggregate-states-2 c = sym (length-take-le _ _ (array-share-prefix-entries (c .before)))
+slice-aggregate-states-2 c =
+    let at-states-arg = c .before in
+    sym (length-take-le _ _ (array-share-prefix-entries at-states-arg))
 
 states-requires : tie.Need-states-requires
 states-requires c κs = search needs

@@ -14,10 +14,13 @@ slice-aggregate-say : tie.Need-slice-aggregate-say
 slice-aggregate-say c = search needs
 
 -- what is printed after the sign is one more than this
-opposite : (c : tie.After-say-arg) → Whole (negsuc 0 -ℤ toZ w32 (ofZ w32 (c .before .before .before .before .args .z)))
+opposite : (c : tie.After-say-arg) →
+    let entry = c .before .before .before .before in
+    Whole (negsuc 0 -ℤ toZ w32 (ofZ w32 (entry .args .z)))
 opposite c =
-    let s = c .before .before .before .before in
-    minus-one-less (toZ w32 (ofZ w32 (s .args .z))) (read-fits (s .fits .z)) (c .before .before .if1 .taken)
+    let entry = c .before .before .before .before in
+    let if1 = c .before .before .if1 in
+    minus-one-less (toZ w32 (ofZ w32 (entry .args .z))) (read-fits (entry .fits .z)) (if1 .taken)
 
 sub-say : tie.Need-sub-say
 sub-say c = opposite c .fits
