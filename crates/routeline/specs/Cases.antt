@@ -14,7 +14,7 @@ use Rattle.routeline.specs.declared.Ask.{Ask}
 use Rattle.routeline.specs.declared.Ask.the-variants.{Write, Read, Stop}
 use Rattle.routeline.specs.declared.Did.{Did}
 use Rattle.routeline.specs.declared.Did.the-variants.{Came, Ended, Went, Interrupted, WouldWait, Failed}
-use Rattle.routeline.specs.Talk.{Talk, silence, asks, Event, came, over, went, again, failed, lookOn, told, after}
+use Rattle.routeline.specs.Talk.{Talk, silence, asks, Event, came, over, went, again, failed, lookOn, told, talkAfter}
 use Rattle.routeline.specs.Speaker.{unmovedBy, answerOf, readingOf, writingOf}
 
 -- ---- talks
@@ -61,7 +61,7 @@ talk-cases =
 
 unfoldable pub allAfter : Talk → List Event → Talk
 allAfter t [] = t
-allAfter t (e ∷ events) = allAfter (after t e) events
+allAfter t (e ∷ events) = allAfter (talkAfter t e) events
 
 unfoldable pub gone : TalkCase → TalkCase
 gone c = let t = allAfter silence (c .events) in case (c .events) (asks t) (length (t .owed)) (length (t .heard))
