@@ -16,7 +16,7 @@ use Rattle.routeline.specs.declared.Stage.{Stage}
 use Rattle.routeline.specs.declared.Stage.the-variants.{Listening, AllHeard, CutShort}
 use Rattle.routeline.specs.declared.Ask.{Ask}
 use Rattle.routeline.specs.declared.Ask.the-variants.{Write, Read, Stop}
-use Rattle.routeline.specs.Talk.{Talk, talk, unread, isNone, asksOn, asks, Event, came, over, went, again, failed, Possible, can-come, can-end, can-go, can-pass, can-fail, lookOn, look, told, after, Seen, seen, seenAfter, Talked, begun, then, due, Begins, LastLooked, Promised}
+use Rattle.routeline.specs.Talk.{Talk, talk, unread, isEmpty, asksOn, asks, Event, came, over, went, again, failed, Possible, can-come, can-end, can-go, can-pass, can-fail, lookOn, talkLooked, told, talkAfter, Seen, seen, seenAfter, Talked, begun, then, due, Begins, LastLooked, Promised}
 
 -- ---- cases
 by-stage : {P : Type 0} (stage : Stage) → (stage ≡ Listening → P) → (stage ≡ AllHeard → P) → (stage ≡ CutShort → P) → P
@@ -148,7 +148,7 @@ look-stage : (stage : Stage) (f : File) (owed heard : List ℕ) → lookOn stage
 unfolding lookOn
 look-stage stage f owed [] = refl
 look-stage stage f owed (b ∷ heard) =
-    cases2 (λ (t : Talk). t .stage ≡ stage) (isNone owed) (f .going) (λ _ _. look-stage stage (takeByte f b .file) (takeByte f b .printed) heard) (λ _. refl)
+    cases2 (λ (t : Talk). t .stage ≡ stage) (isEmpty owed) (f .going) (λ _ _. look-stage stage (takeByte f b .file) (takeByte f b .printed) heard) (λ _. refl)
 
 module _ (s : Seen) (goes-on : s .ended ≡ false) where
   look-hears : (looked : List ℕ) (f : File) (owed heard : List ℕ) → s .read ≡ looked ++ heard → f ≡ feed unread looked .file → feed unread looked .printed ≡ s .written ++ owed
@@ -157,7 +157,7 @@ module _ (s : Seen) (goes-on : s .ended ≡ false) where
   look-hears looked f owed [] r g p l =
       record { not-ended = goes-on; looked = looked; read-is = r; file-is = g; said = p; none-left = λ _ _. refl; last = l }
   look-hears looked f owed (b ∷ heard) r g p l =
-      cases2 (Hears s) (isNone owed) (f .going)
+      cases2 (Hears s) (isEmpty owed) (f .going)
       (λ none _.
       let nothing : owed ≡ [] = empty owed (eqb-true _ _ none) in
       let paid : feed unread looked .printed ≡ s .written = p ∙ rw (nothing, append-nil) in
@@ -181,7 +181,7 @@ module _ (s : Seen) (goes-on : s .ended ≡ false) where
 pub look-one : (stage : Stage) (f : File) (owed : List ℕ) (b : ℕ) (heard : List ℕ) → length owed ≡ 0 → f .going ≡ true → lookOn stage f owed (b ∷ heard) ≡ lookOn stage (takeByte f b .file) (takeByte f b .printed) heard
 unfolding lookOn
 look-one stage f owed b heard none goes =
-    cases2 (λ (t : Talk). t ≡ lookOn stage (takeByte f b .file) (takeByte f b .printed) heard) (isNone owed) (f .going) (λ _ _. refl) (λ some. absurd (true≢false goes (some (eq-eqb _ _ none))))
+    cases2 (λ (t : Talk). t ≡ lookOn stage (takeByte f b .file) (takeByte f b .printed) heard) (isEmpty owed) (f .going) (λ _ _. refl) (λ some. absurd (true≢false goes (some (eq-eqb _ _ none))))
 
 -- nothing is looked at where nothing was heard, where something is owed, and where a refusal has ended the file
 module _ (stage : Stage) (f : File) (owed : List ℕ) where
@@ -198,7 +198,7 @@ module _ (stage : Stage) (f : File) (owed : List ℕ) where
   pub look-ended : (heard : List ℕ) → f .going ≡ false → lookOn stage f owed heard ≡ talk f heard owed stage
   unfolding lookOn
   look-ended [] e = refl
-  look-ended (b ∷ heard) e = cases2 (λ (t : Talk). t ≡ talk f (b ∷ heard) owed stage) (isNone owed) (f .going) (λ _ goes. absurd (true≢false goes e)) (λ _. refl)
+  look-ended (b ∷ heard) e = cases2 (λ (t : Talk). t ≡ talk f (b ∷ heard) owed stage) (isEmpty owed) (f .going) (λ _ goes. absurd (true≢false goes e)) (λ _. refl)
 
 module _ (s : Seen) (t : Talk) (k : Kept s t) where
   -- ---- each event keeps the invariant
@@ -215,7 +215,7 @@ module _ (s : Seen) (t : Talk) (k : Kept s t) where
       let nothing : t .owed ≡ [] = empty (t .owed) (asks-to-read t e .none-owed) in
       ap (λ (l : List ℕ). feed unread l .printed) (read-all-looked e) ∙ (hearing e .said ∙ rw (nothing, append-nil))
 
-  kept-came : asks t ≡ Read → (bytes : List ℕ) → Kept (seenAfter s t (came bytes)) (after t (came bytes))
+  kept-came : asks t ≡ Read → (bytes : List ℕ) → Kept (seenAfter s t (came bytes)) (talkAfter t (came bytes))
   unfolding told
   kept-came e bytes =
       let a : AsksToRead t = asks-to-read t e in
@@ -223,7 +223,7 @@ module _ (s : Seen) (t : Talk) (k : Kept s t) where
       kept-hearing _ _ (look-stage (t .stage) (t .file) (t .owed) bytes ∙ a .listening)
       (rw (a .listening) (look-hears (seenAfter s t (came bytes)) (h .not-ended) (h .looked) (t .file) (t .owed) bytes (ap (λ (l : List ℕ). l ++ bytes) (read-all-looked e)) (h .file-is) (h .said) (λ some. absurd (some (a .none-owed)))))
 
-  kept-over : asks t ≡ Read → Kept (seenAfter s t over) (after t over)
+  kept-over : asks t ≡ Read → Kept (seenAfter s t over) (talkAfter t over)
   unfolding told answerFrom
   kept-over e =
       let h : Hears s t = hearing e in
@@ -252,25 +252,25 @@ module _ (s : Seen) (t : Talk) (k : Kept s t) where
           owed-is = sym (paid-on refl) ∙ l .owed-is;
         }
 
-    kept-went : asks t ≡ Write → Kept (seenAfter s t (went n)) (after t (went n))
+    kept-went : asks t ≡ Write → Kept (seenAfter s t (went n)) (talkAfter t (went n))
     unfolding told
     kept-went e =
         by-stage (t .stage) on-hearing on-finishing (λ l. absurd (asks-to-write t e (k .none-owed l)))
       where
-        on-hearing : t .stage ≡ Listening → Kept (seenAfter s t (went n)) (after t (went n))
+        on-hearing : t .stage ≡ Listening → Kept (seenAfter s t (went n)) (talkAfter t (went n))
         on-hearing l =
             let h : Hears s t = k .hears l in
             kept-hearing _ _ (look-stage (t .stage) (t .file) (drop n (t .owed)) (t .heard) ∙ l)
             (rw l (look-hears (seenAfter s t (went n)) (h .not-ended) (h .looked) (t .file) (drop n (t .owed)) (t .heard) (h .read-is) (h .file-is) (paid-on (h .said))
             (λ _. rw l at (last-on (h .last (asks-to-write t e))))))
 
-        on-finishing : t .stage ≡ AllHeard → Kept (seenAfter s t (went n)) (after t (went n))
+        on-finishing : t .stage ≡ AllHeard → Kept (seenAfter s t (went n)) (talkAfter t (went n))
         on-finishing l =
             let h : Finishes s t = k .finishes l in
             rw (look-nothing (t .stage) (t .file) (drop n (t .owed)) (t .heard) (h .none-heard))
             (kept-finishing _ _ l (record { has-ended = h .has-ended; none-heard = h .none-heard; said = paid-on (h .said) }))
 
-  kept-again : (asks t ≡ Stop → ⊥) → Kept s (look t)
+  kept-again : (asks t ≡ Stop → ⊥) → Kept s (talkLooked t)
   kept-again e =
       by-stage (t .stage)
       (λ l. let h : Hears s t = k .hears l in
@@ -279,7 +279,7 @@ module _ (s : Seen) (t : Talk) (k : Kept s t) where
       (λ l. let h : Finishes s t = k .finishes l in rw (look-nothing (t .stage) (t .file) (t .owed) (t .heard) (h .none-heard)) (kept-finishing s t l h))
       (λ l. absurd (e (cut-short-stops t (k .none-owed l) l)))
 
-  kept-failed : Kept s (after t failed)
+  kept-failed : Kept s (talkAfter t failed)
   unfolding told lookOn
   kept-failed =
       record {
@@ -289,7 +289,7 @@ module _ (s : Seen) (t : Talk) (k : Kept s t) where
         none-owed = λ _. refl;
       }
 
-  kept-then : {e : Event} → Possible t e → Kept (seenAfter s t e) (after t e)
+  kept-then : {e : Event} → Possible t e → Kept (seenAfter s t e) (talkAfter t e)
   unfolding told
   kept-then (can-come a bytes) = kept-came a bytes
   kept-then (can-end a) = kept-over a
