@@ -6,12 +6,18 @@
 
 int main(void);
 
+static int last_error;
+
 static long call(long number, long first, const void *second, size_t third)
 {
     long result;
 
     __asm__ volatile("syscall" : "=a"(result) : "a"(number), "D"(first), "S"(second), "d"(third) : "rcx", "r11", "memory");
-    return result < 0 ? -1 : result;
+    if (result < 0) {
+        last_error = (int)-result;
+        return -1;
+    }
+    return result;
 }
 
 long read(int file, void *to, size_t most)
@@ -22,6 +28,30 @@ long read(int file, void *to, size_t most)
 long write(int file, const void *from, size_t length)
 {
     return call(1, file, from, length);
+}
+
+int sched_yield(void)
+{
+    return (int)call(24, 0, NULL, 0);
+}
+
+/* What the crate `os` asks of the C library: the number of the last error, its words (none here) and the count of arguments. */
+int rattle_errno(void)
+{
+    return last_error;
+}
+
+int __xpg_strerror_r(int error, char *to, size_t most)
+{
+    if (most > 0) {
+        to[0] = 0;
+    }
+    return error;
+}
+
+size_t rattle_arg_count(void)
+{
+    return 1;
 }
 
 void *memcpy(void *restrict to, const void *restrict from, size_t length)
