@@ -21,17 +21,16 @@ use Rattle.frames.specs.RoomLaws.{placed-laid}
 use Rattle.district.specs.declared.Reader.{Reader}
 use Rattle.district.specs.declared.Taken.{Taken}
 use Rattle.district.specs.File.{FileStep, takeByte, endOfInput}
-use Rattle.district.specs.Reader.{Lists, fileOf, Roomy, Kept, Stepped, Ended, startReader, mostBytes}
+use Rattle.district.specs.Reader.{Lists, fileOf, Roomy, Stepped, Ended, mostBytes}
 use Rattle.district.specs.ReaderLaws.{start-file, start-kept}
 use Rattle.district.specs.PrintLaws.{printed-fits, end-fits}
-use Rattle.routeline.specs.declared.Stage.{Stage}
-use Rattle.routeline.specs.declared.Stage.the-variants.{Listening, AllHeard, CutShort}
+use Rattle.routeline.specs.declared.Stage.the-variants.{AllHeard, CutShort}
 use Rattle.routeline.specs.declared.Ask.{Ask}
 use Rattle.routeline.specs.declared.Ask.the-variants.{Write, Read, Stop}
 use Rattle.routeline.specs.declared.Did.{Did}
 use Rattle.routeline.specs.declared.Did.the-variants.{Came, Ended as EndedThere, Went, Interrupted, WouldWait, Failed}
 use Rattle.routeline.specs.declared.Speaker.{Speaker}
-use Rattle.routeline.specs.Talk.{Talk, talk, silence, asks, asksOn, isEmpty, Event, came, over, went, again, failed, Possible, can-come, can-end, can-go, can-pass, can-fail, lookOn, talkLooked, told, talkAfter, Seen, seen, seenAfter, Talked, begun, then}
+use Rattle.routeline.specs.Talk.{Talk, talk, silence, asks, asksOn, Possible, can-come, can-end, can-go, can-pass, can-fail, lookOn, talkLooked, told, talkAfter, Seen, seen, seenAfter, Talked, begun, then}
 use Rattle.routeline.specs.TalkLaws.{never, empty, look-one, look-nothing, look-owing, look-ended, none-left-to-look-at}
 use Rattle.routeline.specs.Speaker.{talkOf, OwedWithin, Sits, StandsFor, speakerAt, startSpeaker, eventOf, interruptedError, waitError, unmovedBy, answerOf, readingOf, writingOf, CameWithin, WentWithin, ReadDid, read-some, read-end, read-interrupted, read-later, read-failed, WriteDid, wrote-some, write-interrupted, write-later, write-failed, AsksAs, Answers, looksOn, TellsAs}
 

@@ -11,7 +11,7 @@ use Rattle.district.specs.Reader.{lists}
 use Rattle.routeline.specs.declared.Ask.{Ask}
 use Rattle.routeline.specs.declared.Ask.the-variants.{Write, Read, Stop}
 use Rattle.routeline.specs.TalkLaws.{never}
-use Rattle.routeline.specs.SpeakerLaws.{Holds, Ready, holds-start, ready, holds-on}
+use Rattle.routeline.specs.SpeakerLaws.{Holds, holds-start, ready, holds-on}
 use Rattle.routeline.proofs.Ask.{the-type}
 use Rattle.routeline.proofs.main.Statement.{statement}
 use Rattle.routeline.proofs.main.Tie as tie
