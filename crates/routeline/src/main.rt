@@ -305,20 +305,15 @@ fn after(
     )
 }
 
-// Waits a little before a call is made again that would have had to wait.
-fn pause() {
-    libc::sched_yield();
-}
-
-// A call that would have had to wait is made again after a pause; one that failed is told on standard error, with the system's
-// reason.
+// A call that failed is told on standard error, with the system's reason. Before one is made again that would have had to wait,
+// the processor is given to whoever else wants it.
 fn tell(did: Did, words: &[u8]) {
     if let Did::Failed = did {
         os::fail(words);
         return;
     }
     if let Did::WouldWait = did {
-        pause();
+        libc::sched_yield();
     }
 }
 
@@ -376,7 +371,8 @@ It takes no arguments. README.md says what a file holds and what the answers mea
     );
 }
 
-// Asks until the talk asks to stop. The count of asks is none that a talk can use up; were it used up, that would be told.
+// Asks until the talk asks to stop. The language wants a bound on every loop: it is more than can be asked in a thousand years,
+// and were it used up, that would be told.
 fn main() {
     if os::arg_count() > 1 {
         explain();
