@@ -13,7 +13,7 @@
  *   SWAPS   a place and a text: when the program first writes to standard output, the bytes from that place on of what it
  *           last read are replaced by the text, in its own memory
  *   CALLS   a file that gets a line for each call: its name, its descriptor, how many bytes it asked for, and how many were
- *           moved or, below zero, the error. A pause has the descriptor -1 and moves nothing.
+ *           moved or, below zero, the error. sched_yield has the descriptor -1 and moves nothing.
  *
  * A call that succeeds leaves an errno that means nothing, as the system may. A plan that cannot be read ends the program.
  */

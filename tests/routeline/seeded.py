@@ -2,6 +2,8 @@
 and has the form of a must-fail edit. Its first line says what the wrong program does. Each line `# caught by: ` names a run
 that must find that. A line `# says: ` has the words with which the program must end, where the change only makes it give up.
 
+The faults here are in what calls the system. One that a contract reaches is a must-fail edit of the crate instead.
+
 Such a program is compiled without a proof: `rt try` compiles what is not proved, and a linker that stands in for the kit's
 keeps what it made. It is for the runs and nothing else."""
 import os

@@ -38,7 +38,7 @@ pub record Sits (s : Speaker) (l : Lists) (chunk room : List ℕ) : Type 0 where
   pub for-answer : mostBytes ≤ length room
 
 -- a speaker stands for this talk
-pub record Stands (t : Talk) (s : Speaker) (l : Lists) (chunk room : List ℕ) : Type 0 where
+pub record StandsFor (t : Talk) (s : Speaker) (l : Lists) (chunk room : List ℕ) : Type 0 where
   pub sits : Sits s l chunk room
   pub talk-is : talkOf s l chunk room ≡ t
 
@@ -122,4 +122,4 @@ looksOn r from got done written = ltb from got && eqb done written && r .going
 
 -- the speaker is told what the system did
 pub record TellsAs (s : Speaker) (did : Did) (after : Speaker) (room room-after : List ℕ) : Type 0 where
-  pub law : (l : Lists) (chunk : List ℕ) → Sits s l chunk room → CameWithin did (length chunk) → Stands (told (talkOf s l chunk room) (eventOf did chunk)) after l chunk room-after
+  pub law : (l : Lists) (chunk : List ℕ) → Sits s l chunk room → CameWithin did (length chunk) → StandsFor (told (talkOf s l chunk room) (eventOf did chunk)) after l chunk room-after

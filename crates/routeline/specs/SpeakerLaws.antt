@@ -21,19 +21,18 @@ use Rattle.frames.specs.RoomLaws.{placed-laid}
 use Rattle.district.specs.declared.Reader.{Reader}
 use Rattle.district.specs.declared.Taken.{Taken}
 use Rattle.district.specs.File.{FileStep, takeByte, endOfInput}
-use Rattle.district.specs.Reader.{Lists, fileOf, Roomy, Kept, Stepped, Ended, startReader, mostBytes}
+use Rattle.district.specs.Reader.{Lists, fileOf, Roomy, Stepped, Ended, mostBytes}
 use Rattle.district.specs.ReaderLaws.{start-file, start-kept}
 use Rattle.district.specs.PrintLaws.{printed-fits, end-fits}
-use Rattle.routeline.specs.declared.Stage.{Stage}
-use Rattle.routeline.specs.declared.Stage.the-variants.{Listening, AllHeard, CutShort}
+use Rattle.routeline.specs.declared.Stage.the-variants.{AllHeard, CutShort}
 use Rattle.routeline.specs.declared.Ask.{Ask}
 use Rattle.routeline.specs.declared.Ask.the-variants.{Write, Read, Stop}
 use Rattle.routeline.specs.declared.Did.{Did}
 use Rattle.routeline.specs.declared.Did.the-variants.{Came, Ended as EndedThere, Went, Interrupted, WouldWait, Failed}
 use Rattle.routeline.specs.declared.Speaker.{Speaker}
-use Rattle.routeline.specs.Talk.{Talk, talk, silence, asks, asksOn, isNone, Event, came, over, went, again, failed, Possible, can-come, can-end, can-go, can-pass, can-fail, lookOn, look, told, after, Seen, seen, seenAfter, Talked, begun, then}
+use Rattle.routeline.specs.Talk.{Talk, talk, silence, asks, asksOn, Possible, can-come, can-end, can-go, can-pass, can-fail, lookOn, talkLooked, told, talkAfter, Seen, seen, seenAfter, Talked, begun, then}
 use Rattle.routeline.specs.TalkLaws.{never, empty, look-one, look-nothing, look-owing, look-ended, none-left-to-look-at}
-use Rattle.routeline.specs.Speaker.{talkOf, OwedWithin, Sits, Stands, speakerAt, startSpeaker, eventOf, interruptedError, waitError, unmovedBy, answerOf, readingOf, writingOf, CameWithin, WentWithin, ReadDid, read-some, read-end, read-interrupted, read-later, read-failed, WriteDid, wrote-some, write-interrupted, write-later, write-failed, AsksAs, Answers, looksOn, TellsAs}
+use Rattle.routeline.specs.Speaker.{talkOf, OwedWithin, Sits, StandsFor, speakerAt, startSpeaker, eventOf, interruptedError, waitError, unmovedBy, answerOf, readingOf, writingOf, CameWithin, WentWithin, ReadDid, read-some, read-end, read-interrupted, read-later, read-failed, WriteDid, wrote-some, write-interrupted, write-later, write-failed, AsksAs, Answers, looksOn, TellsAs}
 
 -- ---- parts of lists
 -- the part from a to b, as it is lent
@@ -45,7 +44,7 @@ lent-part (suc a) zero (x ∷ l) h = absurd (omega arith)
 lent-part (suc a) (suc b) (x ∷ l) h = let n : suc b - suc a ≡ b - a = omega arith in rw n (lent-part a b l (omega arith))
 
 -- ---- the beginning
-pub start-stands : (l : Lists) (chunk room : List ℕ) → Roomy l → mostBytes ≤ length room → Stands silence startSpeaker l chunk room
+pub start-stands : (l : Lists) (chunk room : List ℕ) → Roomy l → mostBytes ≤ length room → StandsFor silence startSpeaker l chunk room
 unfolding startSpeaker talkOf
 start-stands l chunk room r h =
     record {
@@ -237,7 +236,7 @@ same-lengths l room = record { line = refl; tails = refl; heads = refl; weights 
 -- looking on from here leads where looking on from the beginning does
 pub record LookUnderway (t : Talk) (s : Speaker) (l : Lists) (chunk room : List ℕ) : Type 0 where
   pub sits : Sits s l chunk room
-  pub leads : look (talkOf s l chunk room) ≡ look t
+  pub leads : talkLooked (talkOf s l chunk room) ≡ talkLooked t
 
 pub look-start : (s : Speaker) (l : Lists) (chunk room : List ℕ) → Sits s l chunk room → LookUnderway (talkOf s l chunk room) s l chunk room
 look-start s l chunk room k = record { sits = k; leads = refl }
@@ -293,14 +292,14 @@ module _ (t : Talk) (s : Speaker) (l : Lists) (chunk room : List ℕ) (u : LookU
         for-answer = omega (arith, u .sits .for-answer, more-length);
       }
 
-  looked-one : look (talkOf s l chunk room) ≡ lookOn (s .stage) (stepAt s l chunk .file) (stepAt s l chunk .printed) (slice (suc (s .from)) (s .got) chunk)
+  looked-one : talkLooked (talkOf s l chunk room) ≡ lookOn (s .stage) (stepAt s l chunk .file) (stepAt s l chunk .printed) (slice (suc (s .from)) (s .got) chunk)
   unfolding talkOf fileOf
   looked-one =
       let none : length (slice (s .done) (s .written) room) ≡ 0 = length-slice (s .done) (s .written) room (u .sits .owed-there .owed-within) ∙ omega (arith, paid) in
       ap (λ (h : List ℕ). lookOn (s .stage) (fileOf (s .reader) l) (slice (s .done) (s .written) room) h) (slice-cons (s .from) (s .got) chunk 0 more (u .sits .heard-within))
       ∙ look-one (s .stage) (fileOf (s .reader) l) (slice (s .done) (s .written) room) (getD chunk (s .from) 0) (slice (suc (s .from)) (s .got) chunk) none goes
 
-  looked-next : look (talkOf (nextSpeaker s taken) after chunk room-after) ≡ lookOn (s .stage) (stepAt s l chunk .file) (stepAt s l chunk .printed) (slice (suc (s .from)) (s .got) chunk)
+  looked-next : talkLooked (talkOf (nextSpeaker s taken) after chunk room-after) ≡ lookOn (s .stage) (stepAt s l chunk .file) (stepAt s l chunk .printed) (slice (suc (s .from)) (s .got) chunk)
   unfolding talkOf
   looked-next = rw (st .file-is, laid-part (stepAt s l chunk .printed) room room-after (taken .written) short (u .sits .for-answer) (st .room-is), add-one)
 
@@ -309,26 +308,26 @@ module _ (t : Talk) (s : Speaker) (l : Lists) (chunk room : List ℕ) (u : LookU
 
 -- where it ends
 module _ (t : Talk) (s : Speaker) (l : Lists) (chunk room : List ℕ) (u : LookUnderway t s l chunk room) where
-  look-done : look (talkOf s l chunk room) ≡ talkOf s l chunk room → Stands (look t) s l chunk room
+  look-done : talkLooked (talkOf s l chunk room) ≡ talkOf s l chunk room → StandsFor (talkLooked t) s l chunk room
   look-done e = record { sits = u .sits; talk-is = sym e ∙ u .leads }
 
-  look-all : s .got ≤ s .from → Stands (look t) s l chunk room
+  look-all : s .got ≤ s .from → StandsFor (talkLooked t) s l chunk room
   unfolding talkOf
   look-all h =
       let none : slice (s .from) (s .got) chunk ≡ [] = empty _ (length-slice (s .from) (s .got) chunk (u .sits .heard-within) ∙ omega arith) in
       look-done (look-nothing (s .stage) (fileOf (s .reader) l) (slice (s .done) (s .written) room) (slice (s .from) (s .got) chunk) none)
 
-  look-until-owing : (s .done ≡ s .written → ⊥) → Stands (look t) s l chunk room
+  look-until-owing : (s .done ≡ s .written → ⊥) → StandsFor (talkLooked t) s l chunk room
   unfolding talkOf
   look-until-owing h =
       let some : length (slice (s .done) (s .written) room) ≡ 0 → ⊥ = λ e. h (omega (arith, length-slice (s .done) (s .written) room (u .sits .owed-there .owed-within), u .sits .owed-there .owed-first)) in
       look-done (look-owing (s .stage) (fileOf (s .reader) l) (slice (s .done) (s .written) room) (slice (s .from) (s .got) chunk) some)
 
-  look-until-ended : s .reader .going ≡ false → Stands (look t) s l chunk room
+  look-until-ended : s .reader .going ≡ false → StandsFor (talkLooked t) s l chunk room
   unfolding talkOf fileOf
   look-until-ended h = look-done (look-ended (s .stage) (fileOf (s .reader) l) (slice (s .done) (s .written) room) (slice (s .from) (s .got) chunk) h)
 
-  pub look-end : looksOn (s .reader) (s .from) (s .got) (s .done) (s .written) ≡ false → Stands (look t) s l chunk room
+  pub look-end : looksOn (s .reader) (s .from) (s .got) (s .done) (s .written) ≡ false → StandsFor (talkLooked t) s l chunk room
   unfolding looksOn
   look-end off =
       by-lt (s .from) (s .got)
@@ -337,10 +336,10 @@ module _ (t : Talk) (s : Speaker) (l : Lists) (chunk room : List ℕ) (u : LookU
 
 -- what is told and then looked at is what follows
 pub follows : (s : Speaker) (did : Did) (told-to : Speaker) (l : Lists) (chunk room room-told : List ℕ) → Sits s l chunk room → CameWithin did (length chunk) → TellsAs s did told-to room room-told
-    → (r : Speaker) (after-look : Lists) (room-after : List ℕ) → Stands (look (talkOf told-to l chunk room-told)) r after-look chunk room-after
-    → Stands (after (talkOf s l chunk room) (eventOf did chunk)) r after-look chunk room-after
+    → (r : Speaker) (after-look : Lists) (room-after : List ℕ) → StandsFor (talkLooked (talkOf told-to l chunk room-told)) r after-look chunk room-after
+    → StandsFor (talkAfter (talkOf s l chunk room) (eventOf did chunk)) r after-look chunk room-after
 follows s did told-to l chunk room room-told k w t r after-look room-after v =
-    record { sits = v .sits; talk-is = v .talk-is ∙ ap look (t .law l chunk k w .talk-is) }
+    record { sits = v .sits; talk-is = v .talk-is ∙ ap talkLooked (t .law l chunk k w .talk-is) }
 
 -- ---- the program holds a talk that can come to pass
 pub record Holds (s : Speaker) (l : Lists) (chunk room : List ℕ) : Type 0 where
@@ -350,7 +349,7 @@ pub record Holds (s : Speaker) (l : Lists) (chunk room : List ℕ) : Type 0 wher
 
 pub holds-start : (s : Speaker) (l : Lists) (chunk room : List ℕ) → s ≡ startSpeaker → Roomy l → mostBytes ≤ length room → Holds s l chunk room
 holds-start s l chunk room e r h =
-    let v : Stands silence startSpeaker l chunk room = start-stands l chunk room r h in
+    let v : StandsFor silence startSpeaker l chunk room = start-stands l chunk room r h in
     rw e (record { what-is-seen = seen [] false []; talked = rw (v .talk-is) begun; sits = v .sits })
 
 -- the system did something that can come of what was asked
@@ -445,6 +444,6 @@ module _ (s : Speaker) (l : Lists) (chunk room : List ℕ) (h : Holds s l chunk 
 
 -- and what follows is again a talk that can come to pass
 pub holds-on : (s : Speaker) (did : Did) (l : Lists) (chunk room : List ℕ) → Ready s did l chunk room → (r : Speaker) (l-after : Lists) (room-after : List ℕ)
-    → Stands (after (talkOf s l chunk room) (eventOf did chunk)) r l-after chunk room-after → Holds r l-after chunk room-after
+    → StandsFor (talkAfter (talkOf s l chunk room) (eventOf did chunk)) r l-after chunk room-after → Holds r l-after chunk room-after
 holds-on s did l chunk room y r l-after room-after v =
     record { what-is-seen = seenAfter (y .holds .what-is-seen) (talkOf s l chunk room) (eventOf did chunk); talked = rw (v .talk-is) (then (y .holds .talked) (y .possible)); sits = v .sits }

@@ -36,8 +36,8 @@ unread = beginning false 1
 abbrev pub silence : Talk
 silence = talk unread [] [] Listening
 
-abbrev pub isNone : List ℕ → Bool
-isNone l = eqb (length l) 0
+abbrev pub isEmpty : List ℕ → Bool
+isEmpty l = eqb (length l) 0
 
 -- ---- what is asked
 -- where nothing is owed: the next bytes, unless the input has ended, a call has failed, or a refusal has ended the file
@@ -48,7 +48,7 @@ asksOn CutShort going = Stop
 
 -- what is owed is written before anything else is asked
 unfoldable pub asks : Talk → Ask
-asks t = cond (isNone (t .owed)) (asksOn (t .stage) (t .file .going)) Write
+asks t = cond (isEmpty (t .owed)) (asksOn (t .stage) (t .file .going)) Write
 
 -- ---- what the system does
 pub data Event : Type 0 where
@@ -77,10 +77,10 @@ pub data Possible (t : Talk) : Event → Type 0 where
 unfoldable pub lookOn : Stage → File → List ℕ → List ℕ → Talk
 lookOn stage f owed [] = talk f [] owed stage
 lookOn stage f owed (b ∷ heard) =
-    cond (isNone owed && f .going) (lookOn stage (takeByte f b .file) (takeByte f b .printed) heard) (talk f (b ∷ heard) owed stage)
+    cond (isEmpty owed && f .going) (lookOn stage (takeByte f b .file) (takeByte f b .printed) heard) (talk f (b ∷ heard) owed stage)
 
-abbrev pub look : Talk → Talk
-look t = lookOn (t .stage) (t .file) (t .owed) (t .heard)
+abbrev pub talkLooked : Talk → Talk
+talkLooked t = lookOn (t .stage) (t .file) (t .owed) (t .heard)
 
 -- what the system did, before anything more is looked at: at the end of the input, what that prints is owed; of what is owed,
 -- what was written is owed no more; after a failure nothing is owed and nothing is left to look at
@@ -91,8 +91,8 @@ told t (went n) = talk (t .file) (t .heard) (drop n (t .owed)) (t .stage)
 told t again = t
 told t failed = talk (t .file) [] [] CutShort
 
-abbrev pub after : Talk → Event → Talk
-after t e = look (told t e)
+abbrev pub talkAfter : Talk → Event → Talk
+talkAfter t e = talkLooked (told t e)
 
 -- ---- what can be seen from outside
 pub record Seen : Type 0 where
@@ -116,7 +116,7 @@ seenAfter s t failed = s
 -- the talks that can come to pass, with what is seen of them: whatever the system does, one event after the other
 pub data Talked : Seen → Talk → Type 0 where
   begun : Talked (seen [] false []) silence
-  then : {s : Seen} {t : Talk} {e : Event} → Talked s t → Possible t e → Talked (seenAfter s t e) (after t e)
+  then : {s : Seen} {t : Talk} {e : Event} → Talked s t → Possible t e → Talked (seenAfter s t e) (talkAfter t e)
 
 -- ---- what is promised
 -- what the definition of a file's answer prints for what was read

@@ -2,21 +2,19 @@
 -- are those that were read and are not left to look at, and what they print is what is written and then what is owed; once the
 -- input has ended, the same holds of the file's whole answer. Each event keeps it. Assumes nothing.
 use mathlib.Core.Path.{_≡_, refl, sym, ap, _∙_}
-use mathlib.Core.Bool.{Bool, true, false, cond, _&&_}
+use mathlib.Core.Bool.{Bool, true, false}
 use mathlib.Core.List.{List, [], _∷_, _++_, append-assoc, append-nil}
 use Prim.Native.Nat.{ℕ}
 use native.Mathlib.Omega.{arith}
-use borrow.Author.Tests.{eqb-true, eqb-false, eq-eqb, ne-eqb}
-use lib.Dec.{eqb}
+use borrow.Author.Tests.{eqb-true, eq-eqb, ne-eqb}
 use lib.ListN.{length, take, drop, take-append-drop}
 use Rattle.network.specs.CaseSplit.{by-bool, by-eq, cases2, true≢false}
 use Rattle.district.specs.File.{File, FileStep, step, takeByte, endOfInput, feed, answerFrom, fileAnswer}
 use Rattle.district.specs.FileLaws.{feed-append}
 use Rattle.routeline.specs.declared.Stage.{Stage}
 use Rattle.routeline.specs.declared.Stage.the-variants.{Listening, AllHeard, CutShort}
-use Rattle.routeline.specs.declared.Ask.{Ask}
 use Rattle.routeline.specs.declared.Ask.the-variants.{Write, Read, Stop}
-use Rattle.routeline.specs.Talk.{Talk, talk, unread, isNone, asksOn, asks, Event, came, over, went, again, failed, Possible, can-come, can-end, can-go, can-pass, can-fail, lookOn, look, told, after, Seen, seen, seenAfter, Talked, begun, then, due, Begins, LastLooked, Promised}
+use Rattle.routeline.specs.Talk.{Talk, talk, unread, isEmpty, asksOn, asks, Event, came, over, went, failed, Possible, can-come, can-end, can-go, can-pass, can-fail, lookOn, talkLooked, told, talkAfter, Seen, seen, seenAfter, Talked, begun, then, due, Begins, LastLooked, Promised}
 
 -- ---- cases
 by-stage : {P : Type 0} (stage : Stage) → (stage ≡ Listening → P) → (stage ≡ AllHeard → P) → (stage ≡ CutShort → P) → P
@@ -112,7 +110,7 @@ record Finishes (s : Seen) (t : Talk) : Type 0 where
   none-heard : t .heard ≡ []
   said : fileAnswer (s .read) ≡ s .written ++ t .owed
 
-record Kept (s : Seen) (t : Talk) : Type 0 where
+record Invariant (s : Seen) (t : Talk) : Type 0 where
   in-order : Begins (due s) (s .written)
   hears : t .stage ≡ Listening → Hears s t
   finishes : t .stage ≡ AllHeard → Finishes s t
@@ -125,7 +123,7 @@ hears-in-order s t h =
       whole-is = rw (h .not-ended, h .read-is, feed-append, h .said, append-assoc);
     }
 
-kept-hearing : (s : Seen) (t : Talk) → t .stage ≡ Listening → Hears s t → Kept s t
+kept-hearing : (s : Seen) (t : Talk) → t .stage ≡ Listening → Hears s t → Invariant s t
 kept-hearing s t l h =
     record {
       in-order = hears-in-order s t h;
@@ -134,7 +132,7 @@ kept-hearing s t l h =
       none-owed = λ e. never (cc);
     }
 
-kept-finishing : (s : Seen) (t : Talk) → t .stage ≡ AllHeard → Finishes s t → Kept s t
+kept-finishing : (s : Seen) (t : Talk) → t .stage ≡ AllHeard → Finishes s t → Invariant s t
 kept-finishing s t l h =
     record {
       in-order = record { rest = t .owed; whole-is = rw (h .has-ended) (h .said) };
@@ -148,7 +146,7 @@ look-stage : (stage : Stage) (f : File) (owed heard : List ℕ) → lookOn stage
 unfolding lookOn
 look-stage stage f owed [] = refl
 look-stage stage f owed (b ∷ heard) =
-    cases2 (λ (t : Talk). t .stage ≡ stage) (isNone owed) (f .going) (λ _ _. look-stage stage (takeByte f b .file) (takeByte f b .printed) heard) (λ _. refl)
+    cases2 (λ (t : Talk). t .stage ≡ stage) (isEmpty owed) (f .going) (λ _ _. look-stage stage (takeByte f b .file) (takeByte f b .printed) heard) (λ _. refl)
 
 module _ (s : Seen) (goes-on : s .ended ≡ false) where
   look-hears : (looked : List ℕ) (f : File) (owed heard : List ℕ) → s .read ≡ looked ++ heard → f ≡ feed unread looked .file → feed unread looked .printed ≡ s .written ++ owed
@@ -157,7 +155,7 @@ module _ (s : Seen) (goes-on : s .ended ≡ false) where
   look-hears looked f owed [] r g p l =
       record { not-ended = goes-on; looked = looked; read-is = r; file-is = g; said = p; none-left = λ _ _. refl; last = l }
   look-hears looked f owed (b ∷ heard) r g p l =
-      cases2 (Hears s) (isNone owed) (f .going)
+      cases2 (Hears s) (isEmpty owed) (f .going)
       (λ none _.
       let nothing : owed ≡ [] = empty owed (eqb-true _ _ none) in
       let paid : feed unread looked .printed ≡ s .written = p ∙ rw (nothing, append-nil) in
@@ -181,7 +179,7 @@ module _ (s : Seen) (goes-on : s .ended ≡ false) where
 pub look-one : (stage : Stage) (f : File) (owed : List ℕ) (b : ℕ) (heard : List ℕ) → length owed ≡ 0 → f .going ≡ true → lookOn stage f owed (b ∷ heard) ≡ lookOn stage (takeByte f b .file) (takeByte f b .printed) heard
 unfolding lookOn
 look-one stage f owed b heard none goes =
-    cases2 (λ (t : Talk). t ≡ lookOn stage (takeByte f b .file) (takeByte f b .printed) heard) (isNone owed) (f .going) (λ _ _. refl) (λ some. absurd (true≢false goes (some (eq-eqb _ _ none))))
+    cases2 (λ (t : Talk). t ≡ lookOn stage (takeByte f b .file) (takeByte f b .printed) heard) (isEmpty owed) (f .going) (λ _ _. refl) (λ some. absurd (true≢false goes (some (eq-eqb _ _ none))))
 
 -- nothing is looked at where nothing was heard, where something is owed, and where a refusal has ended the file
 module _ (stage : Stage) (f : File) (owed : List ℕ) where
@@ -198,9 +196,9 @@ module _ (stage : Stage) (f : File) (owed : List ℕ) where
   pub look-ended : (heard : List ℕ) → f .going ≡ false → lookOn stage f owed heard ≡ talk f heard owed stage
   unfolding lookOn
   look-ended [] e = refl
-  look-ended (b ∷ heard) e = cases2 (λ (t : Talk). t ≡ talk f (b ∷ heard) owed stage) (isNone owed) (f .going) (λ _ goes. absurd (true≢false goes e)) (λ _. refl)
+  look-ended (b ∷ heard) e = cases2 (λ (t : Talk). t ≡ talk f (b ∷ heard) owed stage) (isEmpty owed) (f .going) (λ _ goes. absurd (true≢false goes e)) (λ _. refl)
 
-module _ (s : Seen) (t : Talk) (k : Kept s t) where
+module _ (s : Seen) (t : Talk) (k : Invariant s t) where
   -- ---- each event keeps the invariant
   hearing : asks t ≡ Read → Hears s t
   hearing e = k .hears (asks-to-read t e .listening)
@@ -215,7 +213,7 @@ module _ (s : Seen) (t : Talk) (k : Kept s t) where
       let nothing : t .owed ≡ [] = empty (t .owed) (asks-to-read t e .none-owed) in
       ap (λ (l : List ℕ). feed unread l .printed) (read-all-looked e) ∙ (hearing e .said ∙ rw (nothing, append-nil))
 
-  kept-came : asks t ≡ Read → (bytes : List ℕ) → Kept (seenAfter s t (came bytes)) (after t (came bytes))
+  kept-came : asks t ≡ Read → (bytes : List ℕ) → Invariant (seenAfter s t (came bytes)) (talkAfter t (came bytes))
   unfolding told
   kept-came e bytes =
       let a : AsksToRead t = asks-to-read t e in
@@ -223,7 +221,7 @@ module _ (s : Seen) (t : Talk) (k : Kept s t) where
       kept-hearing _ _ (look-stage (t .stage) (t .file) (t .owed) bytes ∙ a .listening)
       (rw (a .listening) (look-hears (seenAfter s t (came bytes)) (h .not-ended) (h .looked) (t .file) (t .owed) bytes (ap (λ (l : List ℕ). l ++ bytes) (read-all-looked e)) (h .file-is) (h .said) (λ some. absurd (some (a .none-owed)))))
 
-  kept-over : asks t ≡ Read → Kept (seenAfter s t over) (after t over)
+  kept-over : asks t ≡ Read → Invariant (seenAfter s t over) (talkAfter t over)
   unfolding told answerFrom
   kept-over e =
       let h : Hears s t = hearing e in
@@ -252,25 +250,25 @@ module _ (s : Seen) (t : Talk) (k : Kept s t) where
           owed-is = sym (paid-on refl) ∙ l .owed-is;
         }
 
-    kept-went : asks t ≡ Write → Kept (seenAfter s t (went n)) (after t (went n))
+    kept-went : asks t ≡ Write → Invariant (seenAfter s t (went n)) (talkAfter t (went n))
     unfolding told
     kept-went e =
         by-stage (t .stage) on-hearing on-finishing (λ l. absurd (asks-to-write t e (k .none-owed l)))
       where
-        on-hearing : t .stage ≡ Listening → Kept (seenAfter s t (went n)) (after t (went n))
+        on-hearing : t .stage ≡ Listening → Invariant (seenAfter s t (went n)) (talkAfter t (went n))
         on-hearing l =
             let h : Hears s t = k .hears l in
             kept-hearing _ _ (look-stage (t .stage) (t .file) (drop n (t .owed)) (t .heard) ∙ l)
             (rw l (look-hears (seenAfter s t (went n)) (h .not-ended) (h .looked) (t .file) (drop n (t .owed)) (t .heard) (h .read-is) (h .file-is) (paid-on (h .said))
             (λ _. rw l at (last-on (h .last (asks-to-write t e))))))
 
-        on-finishing : t .stage ≡ AllHeard → Kept (seenAfter s t (went n)) (after t (went n))
+        on-finishing : t .stage ≡ AllHeard → Invariant (seenAfter s t (went n)) (talkAfter t (went n))
         on-finishing l =
             let h : Finishes s t = k .finishes l in
             rw (look-nothing (t .stage) (t .file) (drop n (t .owed)) (t .heard) (h .none-heard))
             (kept-finishing _ _ l (record { has-ended = h .has-ended; none-heard = h .none-heard; said = paid-on (h .said) }))
 
-  kept-again : (asks t ≡ Stop → ⊥) → Kept s (look t)
+  kept-again : (asks t ≡ Stop → ⊥) → Invariant s (talkLooked t)
   kept-again e =
       by-stage (t .stage)
       (λ l. let h : Hears s t = k .hears l in
@@ -279,7 +277,7 @@ module _ (s : Seen) (t : Talk) (k : Kept s t) where
       (λ l. let h : Finishes s t = k .finishes l in rw (look-nothing (t .stage) (t .file) (t .owed) (t .heard) (h .none-heard)) (kept-finishing s t l h))
       (λ l. absurd (e (cut-short-stops t (k .none-owed l) l)))
 
-  kept-failed : Kept s (after t failed)
+  kept-failed : Invariant s (talkAfter t failed)
   unfolding told lookOn
   kept-failed =
       record {
@@ -289,7 +287,7 @@ module _ (s : Seen) (t : Talk) (k : Kept s t) where
         none-owed = λ _. refl;
       }
 
-  kept-then : {e : Event} → Possible t e → Kept (seenAfter s t e) (after t e)
+  kept-then : {e : Event} → Possible t e → Invariant (seenAfter s t e) (talkAfter t e)
   unfolding told
   kept-then (can-come a bytes) = kept-came a bytes
   kept-then (can-end a) = kept-over a
@@ -319,7 +317,7 @@ module _ (s : Seen) (t : Talk) (k : Kept s t) where
           rw (h .read-is, append-assoc, feed-append, feed-ended (feed unread (h .looked) .file) (t .heard ++ more) g, append-nil, end-ended (feed unread (h .looked) .file) g, append-nil, h .said, nothing, append-nil)
 
 -- nothing is said or heard at the beginning
-kept-begun : Kept (seen [] false []) (talk unread [] [] Listening)
+kept-begun : Invariant (seen [] false []) (talk unread [] [] Listening)
 unfolding feed
 kept-begun =
     kept-hearing _ _ refl
@@ -333,7 +331,7 @@ kept-begun =
       last = λ some. absurd (some refl);
     })
 
-kept-talk : {s : Seen} {t : Talk} → Talked s t → Kept s t
+kept-talk : {s : Seen} {t : Talk} → Talked s t → Invariant s t
 kept-talk begun = kept-begun
 kept-talk (then {s} {t} r p) = kept-then s t (kept-talk r) p
 

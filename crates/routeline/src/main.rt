@@ -7,8 +7,8 @@ ghost use mathlib.Core.Path.{_≡_};
 ghost use lib.ListN.{length};
 ghost use lib.Seq.{slice};
 ghost use Rattle.district.specs.Reader.{lists, Reached};
-ghost use Rattle.routeline.specs.Talk.{look as talkLook, after as talkAfter};
-ghost use Rattle.routeline.specs.Speaker.{talkOf, OwedWithin, Sits, Stands, startSpeaker, eventOf, unmovedBy, readingOf, writingOf, CameWithin, WentWithin, ReadDid, WriteDid, AsksAs, Answers, looksOn, TellsAs};
+ghost use Rattle.routeline.specs.Talk.{talkAfter, talkLooked};
+ghost use Rattle.routeline.specs.Speaker.{talkOf, OwedWithin, Sits, StandsFor, startSpeaker, eventOf, unmovedBy, readingOf, writingOf, CameWithin, WentWithin, ReadDid, WriteDid, AsksAs, Answers, looksOn, TellsAs};
 use district::Reader;
 use libc::STDERR_FILENO;
 use libc::STDIN_FILENO;
@@ -238,7 +238,7 @@ fn look(
     room: &mut [u8],
 ) -> Speaker
     requires { ⌜ Sits speaker (lists (now line) (now tails) (now heads) (now weights) (now forward) (now backward)) (now chunk) (now room) ⌝ }
-    ensures { λ r. ⌜ Stands (talkLook (talkOf speaker (lists (now (line .entry)) (now (tails .entry)) (now (heads .entry)) (now (weights .entry)) (now (forward .entry)) (now (backward .entry))) (now (chunk .entry)) (now (room .entry)))) r (lists (now (line .exit)) (now (tails .exit)) (now (heads .exit)) (now (weights .exit)) (now (forward .exit)) (now (backward .exit))) (now (chunk .entry)) (now (room .exit)) ⌝ }
+    ensures { λ r. ⌜ StandsFor (talkLooked (talkOf speaker (lists (now (line .entry)) (now (tails .entry)) (now (heads .entry)) (now (weights .entry)) (now (forward .entry)) (now (backward .entry))) (now (chunk .entry)) (now (room .entry)))) r (lists (now (line .exit)) (now (tails .exit)) (now (heads .exit)) (now (weights .exit)) (now (forward .exit)) (now (backward .exit))) (now (chunk .entry)) (now (room .exit)) ⌝ }
 {
     let mut reader = speaker.reader;
     let mut from = speaker.from;
@@ -289,7 +289,7 @@ fn after(
     requires { ⌜ Sits speaker (lists (now line) (now tails) (now heads) (now weights) (now forward) (now backward)) (now chunk) (now room) ⌝ }
     requires { ⌜ CameWithin did (length (now chunk)) ⌝ }
     requires { ⌜ WentWithin speaker did ⌝ }
-    ensures { λ r. ⌜ Stands (talkAfter (talkOf speaker (lists (now (line .entry)) (now (tails .entry)) (now (heads .entry)) (now (weights .entry)) (now (forward .entry)) (now (backward .entry))) (now (chunk .entry)) (now (room .entry))) (eventOf did (now (chunk .entry)))) r (lists (now (line .exit)) (now (tails .exit)) (now (heads .exit)) (now (weights .exit)) (now (forward .exit)) (now (backward .exit))) (now (chunk .entry)) (now (room .exit)) ⌝ }
+    ensures { λ r. ⌜ StandsFor (talkAfter (talkOf speaker (lists (now (line .entry)) (now (tails .entry)) (now (heads .entry)) (now (weights .entry)) (now (forward .entry)) (now (backward .entry))) (now (chunk .entry)) (now (room .entry))) (eventOf did (now (chunk .entry)))) r (lists (now (line .exit)) (now (tails .exit)) (now (heads .exit)) (now (weights .exit)) (now (forward .exit)) (now (backward .exit))) (now (chunk .entry)) (now (room .exit)) ⌝ }
 {
     let next = told(speaker, did, room);
     look(
@@ -305,20 +305,15 @@ fn after(
     )
 }
 
-// Waits a little before a call is made again that would have had to wait.
-fn pause() {
-    libc::sched_yield();
-}
-
-// A call that would have had to wait is made again after a pause; one that failed is told on standard error, with the system's
-// reason.
+// A call that failed is told on standard error, with the system's reason. Before one is made again that would have had to wait,
+// the processor is given to whoever else wants it.
 fn tell(did: Did, words: &[u8]) {
     if let Did::Failed = did {
         os::fail(words);
         return;
     }
     if let Did::WouldWait = did {
-        pause();
+        libc::sched_yield();
     }
 }
 
@@ -376,7 +371,8 @@ It takes no arguments. README.md says what a file holds and what the answers mea
     );
 }
 
-// Asks until the talk asks to stop. The count of asks is none that a talk can use up; were it used up, that would be told.
+// Asks until the talk asks to stop. The language wants a bound on every loop: it is more than can be asked in a thousand years,
+// and were it used up, that would be told.
 fn main() {
     if os::arg_count() > 1 {
         explain();

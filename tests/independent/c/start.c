@@ -6,8 +6,7 @@
 
 int main(void);
 
-/* Why the last call that failed did. */
-static int error;
+static int last_error;
 
 static long call(long number, long first, const void *second, size_t third)
 {
@@ -15,7 +14,7 @@ static long call(long number, long first, const void *second, size_t third)
 
     __asm__ volatile("syscall" : "=a"(result) : "a"(number), "D"(first), "S"(second), "d"(third) : "rcx", "r11", "memory");
     if (result < 0) {
-        error = (int)-result;
+        last_error = (int)-result;
         return -1;
     }
     return result;
@@ -36,24 +35,23 @@ int sched_yield(void)
     return (int)call(24, 0, NULL, 0);
 }
 
-/* What the kit's library `os` has in C. No argument but the program's name is ever given, and an error's words are left out. */
+/* What the crate `os` asks of the C library: the number of the last error, its words (none here) and the count of arguments. */
 int rattle_errno(void)
 {
+    return last_error;
+}
+
+int __xpg_strerror_r(int error, char *to, size_t most)
+{
+    if (most > 0) {
+        to[0] = 0;
+    }
     return error;
 }
 
 size_t rattle_arg_count(void)
 {
     return 1;
-}
-
-int __xpg_strerror_r(int number, char *text, size_t length)
-{
-    if (length > 0) {
-        text[0] = '\0';
-    }
-    (void)number;
-    return 0;
 }
 
 void *memcpy(void *restrict to, const void *restrict from, size_t length)

@@ -28,7 +28,9 @@ looks-on-requires c κs = tt
 shared-slice-read-take-byte : tie.Need-shared-slice-read-take-byte Inv-loop μ-loop
 shared-slice-read-take-byte c =
     let loop = c .before .before .before .loop in
-    let on = looks-on-more _ _ _ _ _ (sym (c .before .before .looks-on .ensures) ∙ c .before .if1 .taken) in
+    let looks-on = c .before .before .looks-on in
+    let test = c .before .if1 in
+    let on = looks-on-more _ _ _ _ _ (sym (looks-on .ensures) ∙ test .taken) in
     omega (arith, on .there, loop .inv .0 .sits .heard-within)
 
 take-byte-requires : tie.Need-take-byte-requires Inv-loop μ-loop
@@ -37,19 +39,26 @@ take-byte-requires c κs = c .before .before .before .before .before .before .be
 add-from : tie.Need-add-from Inv-loop μ-loop
 add-from c =
     let loop = c .before .before .before .before .before .before .before .before .before .before .before .before .before .before .before .before .before .before .before .before .before .before .before .before .loop in
-    let on = looks-on-more _ _ _ _ _ (sym (c .before .before .before .before .before .before .before .before .before .before .before .before .before .before .before .before .before .before .before .before .before .before .before .looks-on .ensures) ∙ c .before .before .before .before .before .before .before .before .before .before .before .before .before .before .before .before .before .before .before .before .before .before .if1 .taken) in
-    omega (arith, on .there, loop .inv .0 .sits .heard-within, c .before .before .before .before .before .before .before .before .before .before .before .before .before .before .before .before .before .before .before .before .before .before .before .before .before .before .before .before .before .before .before .before .good)
+    let looks-on = c .before .before .before .before .before .before .before .before .before .before .before .before .before .before .before .before .before .before .before .before .before .before .before .looks-on in
+    let test = c .before .before .before .before .before .before .before .before .before .before .before .before .before .before .before .before .before .before .before .before .before .before .if1 in
+    let on = looks-on-more _ _ _ _ _ (sym (looks-on .ensures) ∙ test .taken) in
+    let start = c .before .before .before .before .before .before .before .before .before .before .before .before .before .before .before .before .before .before .before .before .before .before .before .before .before .before .before .before .before .before .before .before in
+    omega (arith, on .there, loop .inv .0 .sits .heard-within, start .good)
 
 loop-less : tie.Need-loop-less Inv-loop μ-loop
 loop-less c =
-    let on = looks-on-more _ _ _ _ _ (sym (c .before .before .before .before .before .before .before .before .before .before .before .before .before .before .before .before .before .before .before .before .before .before .before .looks-on .ensures) ∙ c .before .before .before .before .before .before .before .before .before .before .before .before .before .before .before .before .before .before .before .before .before .before .if1 .taken) in
+    let looks-on = c .before .before .before .before .before .before .before .before .before .before .before .before .before .before .before .before .before .before .before .before .before .before .before .looks-on in
+    let test = c .before .before .before .before .before .before .before .before .before .before .before .before .before .before .before .before .before .before .before .before .before .before .if1 in
+    let on = looks-on-more _ _ _ _ _ (sym (looks-on .ensures) ∙ test .taken) in
     omega (arith, on .there)
 
 loop-again : tie.Need-loop-again Inv-loop μ-loop
 loop-again c =
     let loop = c .before .before .before .before .before .before .before .before .before .before .before .before .before .before .before .before .before .before .before .before .before .before .before .before .loop in
+    let looks-on = c .before .before .before .before .before .before .before .before .before .before .before .before .before .before .before .before .before .before .before .before .before .before .before .looks-on in
+    let test = c .before .before .before .before .before .before .before .before .before .before .before .before .before .before .before .before .before .before .before .before .before .before .if1 in
     let step = c .before .before .before .before .before .before .before .before .before .before .before .before .before .take-byte in
-    (look-more _ _ _ _ _ (loop .inv .0) (sym (c .before .before .before .before .before .before .before .before .before .before .before .before .before .before .before .before .before .before .before .before .before .before .before .looks-on .ensures) ∙ c .before .before .before .before .before .before .before .before .before .before .before .before .before .before .before .before .before .before .before .before .before .before .if1 .taken) _ _ _ (step .ensures), record { line = omega (arith, step .kept, loop .inv .1 .line); tails = omega (arith, step .kept, loop .inv .1 .tails); heads = omega (arith, step .kept, loop .inv .1 .heads); weights = omega (arith, step .kept, loop .inv .1 .weights); forward = omega (arith, step .kept, loop .inv .1 .forward); backward = omega (arith, step .kept, loop .inv .1 .backward); room-is = omega (arith, step .kept, loop .inv .1 .room-is) })
+    (look-more _ _ _ _ _ (loop .inv .0) (sym (looks-on .ensures) ∙ test .taken) _ _ _ (step .ensures), record { line = omega (arith, step .kept, loop .inv .1 .line); tails = omega (arith, step .kept, loop .inv .1 .tails); heads = omega (arith, step .kept, loop .inv .1 .heads); weights = omega (arith, step .kept, loop .inv .1 .weights); forward = omega (arith, step .kept, loop .inv .1 .forward); backward = omega (arith, step .kept, loop .inv .1 .backward); room-is = omega (arith, step .kept, loop .inv .1 .room-is) })
 
 same-length : tie.Need-same-length Inv-loop μ-loop
 same-length c = omega (arith, c .before .before .loop .inv .1 .line)

@@ -11,7 +11,7 @@ use Rattle.district.specs.Reader.{lists}
 use Rattle.routeline.specs.declared.Ask.{Ask}
 use Rattle.routeline.specs.declared.Ask.the-variants.{Write, Read, Stop}
 use Rattle.routeline.specs.TalkLaws.{never}
-use Rattle.routeline.specs.SpeakerLaws.{Holds, Ready, holds-start, ready, holds-on}
+use Rattle.routeline.specs.SpeakerLaws.{Holds, holds-start, ready, holds-on}
 use Rattle.routeline.proofs.Ask.{the-type}
 use Rattle.routeline.proofs.main.Statement.{statement}
 use Rattle.routeline.proofs.main.Tie as tie
@@ -59,7 +59,11 @@ ask-system-requires c κs = c .before .before .before .before .before .loop .inv
 
 after-requires : tie.Need-after-requires Inv-loop μ-loop
 after-requires c κs =
-    let next = ready _ _ _ _ (c .before .before .before .before .before .before .before .before .before .before .before .before .before .before .loop .inv) _ _ _ (c .before .before .before .before .before .before .before .before .before .before .before .before .asks .ensures) (not-stop _ (c .before .before .before .before .before .before .before .before .before .before .before .match .keys2)) (c .before .before .before .before .before .before .before .before .ask-system .ensures) in
+    let loop = c .before .before .before .before .before .before .before .before .before .before .before .before .before .before .loop in
+    let asked = c .before .before .before .before .before .before .before .before .before .before .before .before .asks in
+    let match = c .before .before .before .before .before .before .before .before .before .before .before .match in
+    let did = c .before .before .before .before .before .before .before .before .ask-system in
+    let next = ready _ _ _ _ (loop .inv) _ _ _ (asked .ensures) (not-stop _ (match .keys2)) (did .ensures) in
     (next .holds .sits, (next .came-within, next .went-within))
 
 sub-left : tie.Need-sub-left Inv-loop μ-loop
@@ -70,7 +74,11 @@ loop-less c = omega (arith, c .before .before .before .before .before .before .b
 
 loop-again : tie.Need-loop-again Inv-loop μ-loop
 loop-again c =
-    let next = ready _ _ _ _ (c .before .before .before .before .before .before .before .before .before .before .before .before .before .before .before .loop .inv) _ _ _ (c .before .before .before .before .before .before .before .before .before .before .before .before .before .asks .ensures) (not-stop _ (c .before .before .before .before .before .before .before .before .before .before .before .before .match .keys2)) (c .before .before .before .before .before .before .before .before .before .ask-system .ensures) in
+    let loop = c .before .before .before .before .before .before .before .before .before .before .before .before .before .before .before .loop in
+    let asked = c .before .before .before .before .before .before .before .before .before .before .before .before .before .asks in
+    let match = c .before .before .before .before .before .before .before .before .before .before .before .before .match in
+    let did = c .before .before .before .before .before .before .before .before .before .ask-system in
+    let next = ready _ _ _ _ (loop .inv) _ _ _ (asked .ensures) (not-stop _ (match .keys2)) (did .ensures) in
     holds-on _ _ _ _ _ next _ _ _ (c .after .ensures)
 
 slice-aggregate-write-all : tie.Need-slice-aggregate-write-all Inv-loop μ-loop

@@ -1,6 +1,5 @@
 -- `routeline::unmoved` meets its contract: the number of an error is read off its bits, which are the number. Assumes nothing.
 use Rattle.routeline.specs.SpeakerLaws.{unmoved-interrupted, unmoved-later, unmoved-failed}
-use borrow.Author.Needs.{needs}
 use Rattle.routeline.proofs.unmoved.Statement.{statement}
 use Rattle.routeline.proofs.unmoved.Tie as tie
 
