@@ -305,15 +305,28 @@ fn after(
     )
 }
 
-// A call that failed is told on standard error, with the system's reason. Before one is made again that would have had to wait,
-// the processor is given to whoever else wants it.
+// Waits for a thousandth of a second.
+fn pause() {
+    let asked = libc::types::timespec {
+        tv_sec: 0,
+        tv_nsec: 1000000,
+    };
+    let mut left = libc::types::timespec {
+        tv_sec: 0,
+        tv_nsec: 0,
+    };
+    libc::nanosleep(&asked, &mut left);
+}
+
+// A call that failed is told on standard error, with the system's reason. One that would have had to wait is made again after a
+// pause.
 fn tell(did: Did, words: &[u8]) {
     if let Did::Failed = did {
         os::fail(words);
         return;
     }
     if let Did::WouldWait = did {
-        libc::sched_yield();
+        pause();
     }
 }
 
