@@ -1,8 +1,8 @@
 // Program `routeline`: a district file on standard input, its answer lines on standard output (docs/RULES.md, "The program").
 // The program is a talk with the system. What it asks next, and what the system's answer changes, is decided by functions over
 // numbers and lists, each under a contract (specs/Talk.antt): nothing is read while something is owed, and an answer is written
-// before a further byte is looked at. What no contract can reach is small and stands at the end: `hear` and `say`, which call
-// the system, the words for people, and `main`. The memory is fixed: the lists of `main`.
+// before a further byte is looked at. What no contract can reach is small and stands at the end: `hear`, `say` and `pause`, which
+// call the system, the words for people, and what `main` does with them. The memory is fixed: the lists of `main`.
 ghost use mathlib.Core.Path.{_≡_};
 ghost use lib.ListN.{length};
 ghost use lib.Seq.{slice};
@@ -305,15 +305,28 @@ fn after(
     )
 }
 
-// A call that failed is told on standard error, with the system's reason. Before one is made again that would have had to wait,
-// the processor is given to whoever else wants it.
+// Waits for a thousandth of a second.
+fn pause() {
+    let asked = libc::types::timespec {
+        tv_sec: 0,
+        tv_nsec: 1000000,
+    };
+    let mut left = libc::types::timespec {
+        tv_sec: 0,
+        tv_nsec: 0,
+    };
+    libc::nanosleep(&asked, &mut left);
+}
+
+// A call that failed is told on standard error, with the system's reason. One that would have had to wait is made again after a
+// pause.
 fn tell(did: Did, words: &[u8]) {
     if let Did::Failed = did {
         os::fail(words);
         return;
     }
     if let Did::WouldWait = did {
-        libc::sched_yield();
+        pause();
     }
 }
 
