@@ -1,6 +1,6 @@
 /*
  * Faults of the system, for the runs of `routeline`: a library that is loaded with the program and stands between it and the
- * C library's read, write and sched_yield. What goes wrong is a plan, given in the environment, so a fault that is rare on a
+ * C library's read, write and nanosleep. What goes wrong is a plan, given in the environment, so a fault that is rare on a
  * real system comes at the same call in every run.
  *
  *   READS   what the reads of standard input do, in order, a word a call:
@@ -13,22 +13,21 @@
  *   SWAPS   a place and a text: when the program first writes to standard output, the bytes from that place on of what it
  *           last read are replaced by the text, in its own memory
  *   CALLS   a file that gets a line for each call: its name, its descriptor, how many bytes it asked for, and how many were
- *           moved or, below zero, the error. sched_yield has the descriptor -1 and moves nothing.
+ *           moved or, below zero, the error. A pause has the descriptor -1 and asks for nanoseconds.
  *
  * A call that succeeds leaves an errno that means nothing, as the system may. A plan that cannot be read ends the program.
  */
 #include <errno.h>
 #include <fcntl.h>
-#include <sched.h>
 #include <stdio.h>
 #include <stdlib.h>
 #include <string.h>
+#include <time.h>
 #include <unistd.h>
 
-/* The C library's own calls, under names of theirs that are not stood between. */
+/* The C library's own calls, under names of theirs that are not stood between; a pause has clock_nanosleep. */
 ssize_t __read(int file, void *to, size_t most);
 ssize_t __write(int file, const void *from, size_t length);
-int __sched_yield(void);
 
 /* What errno says after a success: an error that none of these calls gives. */
 #define MEANS_NOTHING EDOM
@@ -174,7 +173,10 @@ ssize_t write(int file, const void *from, size_t length)
     return gives("write", file, asked, moved, error);
 }
 
-int sched_yield(void)
+int nanosleep(const struct timespec *wanted, struct timespec *left)
 {
-    return (int)gives("sched_yield", -1, 0, __sched_yield(), 0);
+    size_t nanoseconds = (size_t)wanted->tv_sec * 1000000000 + (size_t)wanted->tv_nsec;
+    int error = clock_nanosleep(CLOCK_REALTIME, 0, wanted, left);
+
+    return (int)gives("nanosleep", -1, nanoseconds, 0, error);
 }

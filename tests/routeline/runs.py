@@ -40,9 +40,9 @@ class Wrong(Exception):
     """What a run found wrong, in words."""
 
 
-# A call of the system, as faults.c notes it, and the one that gives the processor away.
+# A call of the system, as faults.c notes it, and the one that is a pause of a millisecond.
 Call = namedtuple("Call", "name file asked moved")
-YIELDS = Call("sched_yield", -1, 0, 0)
+PAUSE = Call("nanosleep", -1, 1_000_000, 0)
 
 # What a run of the program left: its output, its words, its calls, and how many bytes of its input it took.
 Ran = namedtuple("Ran", "printed words calls taken")
@@ -289,14 +289,14 @@ def _(routeline):
     met(ran, -errno.EINTR)
 
 
-@run("a call that would have to wait gives the processor away and is tried again")
+@run("a call that would have to wait is tried again, after a pause")
 def _(routeline):
     ran = routeline.ran(FOUR, READS="EAGAIN EAGAIN 200 again", WRITES="EAGAIN 0 20 again")
     whole(ran, "".join(ANSWERS))
     met(ran, -errno.EAGAIN)
     after = [then for call, then in zip(ran.calls, ran.calls[1:])
              if call.moved == -errno.EAGAIN or call.name == "write" and call.moved == 0]
-    same("after each", after, [YIELDS] * len(after))
+    same("after each", after, [PAUSE] * len(after))
 
 
 @run("a slow reader of a pipe that does not block gets all lines")

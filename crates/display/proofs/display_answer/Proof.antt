@@ -34,14 +34,16 @@ gather-requires c κs = search needs
 -- the count of the gathered text lies within it
 array-share-prefix-text : tie.Need-array-share-prefix-text
 array-share-prefix-text c =
+    let entry = c .before .before .before .before .before .before .before .before .before .before .before .before .before .before .before .before .before in
     let gathered = c .before .before .before .before .before .before .before .gather in
-    let file = c .before .before .before .before .before .before .before .before .before .before .before .before .before .before .before .before .before .args .file .now in
+    let file = entry .args .file .now in
     omega (arith, gathered .ensures .count-is, display-bytes file, gathered .kept .1 .1 .1 .1 .1 .1 .1 .0)
 
 slice-aggregate-place : tie.Need-slice-aggregate-place
 slice-aggregate-place c =
+    let entry = c .before .before .before .before .before .before .before .before .before .before .before .before .before .before .before .before .before .before in
     let gathered = c .before .before .before .before .before .before .before .before .gather in
-    let file = c .before .before .before .before .before .before .before .before .before .before .before .before .before .before .before .before .before .before .args .file .now in
+    let file = entry .args .file .now in
     simp length-take (omega (arith, gathered .ensures .count-is, display-bytes file, gathered .kept .1 .1 .1 .1 .1 .1 .1 .0))
 
 place-requires : tie.Need-place-requires

@@ -31,40 +31,52 @@ shared-slice-read-take-byte : tie.Need-shared-slice-read-take-byte Inv-loop μ-l
 shared-slice-read-take-byte c = c .before .before .loop-test .taken
 
 sub-take-byte : tie.Need-sub-take-byte Inv-loop μ-loop
-sub-take-byte c = let gathering = c .before .before .before .before .before .before .before .before .before .loop .inv in omega (arith, gathering .underway .fits)
+sub-take-byte c =
+    let loop = c .before .before .before .before .before .before .before .before .before .loop in
+    let gathering = loop .inv in omega (arith, gathering .underway .fits)
 
 part-take-byte-start : tie.Need-part-take-byte-start Inv-loop μ-loop
-part-take-byte-start c = let gathering = c .before .before .before .before .before .before .before .before .before .loop .inv in omega (arith, gathering .underway .fits)
+part-take-byte-start c =
+    let loop = c .before .before .before .before .before .before .before .before .before .loop in
+    let gathering = loop .inv in omega (arith, gathering .underway .fits)
 
 part-take-byte-end : tie.Need-part-take-byte-end Inv-loop μ-loop
 part-take-byte-end c = omega arith
 
 take-byte-requires : tie.Need-take-byte-requires Inv-loop μ-loop
-take-byte-requires c κs = let gathering = c .before .before .before .before .before .before .before .before .before .before .loop .inv in gathering .kept
+take-byte-requires c κs =
+    let loop = c .before .before .before .before .before .before .before .before .before .before .loop in
+    let gathering = loop .inv in gathering .kept
 
 add-at : tie.Need-add-at Inv-loop μ-loop
 add-at c =
-    let gathering = c .before .before .before .before .before .before .before .before .before .before .before .before .before .before .before .before .before .before .before .before .before .before .before .before .before .loop .inv in
-    let taken = c .before .before .before .before .before .before .before .before .before .before .before .before .before .before .take-byte in
     let entry = c .before .before .before .before .before .before .before .before .before .before .before .before .before .before .before .before .before .before .before .before .before .before .before .before .before .before .before .before .before .before .before .before .before in
-    omega (arith, part-within _ _ _ _ _ _ _ _ gathering (taken .ensures .room-is), gathering .underway .size, entry .good)
+    let loop = c .before .before .before .before .before .before .before .before .before .before .before .before .before .before .before .before .before .before .before .before .before .before .before .before .before .loop in
+    let take-byte = c .before .before .before .before .before .before .before .before .before .before .before .before .before .before .take-byte in
+    let gathering = loop .inv in
+    omega (arith, part-within _ _ _ _ _ _ _ _ gathering (take-byte .ensures .room-is), gathering .underway .size, entry .good)
 
 add-i : tie.Need-add-i Inv-loop μ-loop
 add-i c =
-    let more = c .before .before .before .before .before .before .before .before .before .before .before .before .before .before .before .before .before .before .before .before .before .before .before .before .loop-test .taken in
     let entry = c .before .before .before .before .before .before .before .before .before .before .before .before .before .before .before .before .before .before .before .before .before .before .before .before .before .before .before .before .before .before .before .before .before in
+    let loop-test = c .before .before .before .before .before .before .before .before .before .before .before .before .before .before .before .before .before .before .before .before .before .before .before .before .loop-test in
+    let more = loop-test .taken in
     omega (arith, more, entry .good)
 
 loop-less : tie.Need-loop-less Inv-loop μ-loop
-loop-less c = let more = c .before .before .before .before .before .before .before .before .before .before .before .before .before .before .before .before .before .before .before .before .before .before .before .before .loop-test .taken in omega (arith, more)
+loop-less c =
+    let loop-test = c .before .before .before .before .before .before .before .before .before .before .before .before .before .before .before .before .before .before .before .before .before .before .before .before .loop-test in
+    let more = loop-test .taken in omega (arith, more)
 
 loop-again : tie.Need-loop-again Inv-loop μ-loop
 loop-again c =
-    let gathering = c .before .before .before .before .before .before .before .before .before .before .before .before .before .before .before .before .before .before .before .before .before .before .before .before .before .loop .inv in
-    let more = c .before .before .before .before .before .before .before .before .before .before .before .before .before .before .before .before .before .before .before .before .before .before .before .before .loop-test .taken in
-    let taken = c .before .before .before .before .before .before .before .before .before .before .before .before .before .before .take-byte in
-    let lengths = taken .kept .1 .1 in
-    gather-byte _ _ _ _ _ _ _ _ gathering more _ _ _ (taken .ensures)
+    let loop = c .before .before .before .before .before .before .before .before .before .before .before .before .before .before .before .before .before .before .before .before .before .before .before .before .before .loop in
+    let loop-test = c .before .before .before .before .before .before .before .before .before .before .before .before .before .before .before .before .before .before .before .before .before .before .before .before .loop-test in
+    let take-byte = c .before .before .before .before .before .before .before .before .before .before .before .before .before .before .take-byte in
+    let gathering = loop .inv in
+    let more = loop-test .taken in
+    let lengths = take-byte .kept .1 .1 in
+    gather-byte _ _ _ _ _ _ _ _ gathering more _ _ _ (take-byte .ensures)
     (record {
       line = lengths .0;
       tails = lengths .1 .0;
@@ -89,40 +101,58 @@ end-of-input-requires c κs = let gathering = c .before .before .loop .inv in re
 
 add-result : tie.Need-add-result Inv-loop μ-loop
 add-result c =
-    let gathering = c .before .before .before .before .before .loop .inv in
-    let placed = c .before .before .end-of-input .ensures .law _ (gathering .kept) in
     let entry = c .before .before .before .before .before .before .before .before .before .before .before .before .before in
+    let loop = c .before .before .before .before .before .loop in
+    let end-of-input = c .before .before .end-of-input in
+    let gathering = loop .inv in
+    let placed = end-of-input .ensures .law _ (gathering .kept) in
     omega (arith, part-within _ _ _ _ _ _ _ _ gathering placed, gathering .underway .size, entry .good)
 
 same-length : tie.Need-same-length Inv-loop μ-loop
-same-length c = let gathering = c .before .before .before .before .before .loop .inv in gathering .as-long .line
+same-length c =
+    let loop = c .before .before .before .before .before .loop in
+    let gathering = loop .inv in gathering .as-long .line
 
 same-length-2 : tie.Need-same-length-2 Inv-loop μ-loop
-same-length-2 c = let gathering = c .before .before .before .before .before .loop .inv in gathering .as-long .tails
+same-length-2 c =
+    let loop = c .before .before .before .before .before .loop in
+    let gathering = loop .inv in gathering .as-long .tails
 
 same-length-3 : tie.Need-same-length-3 Inv-loop μ-loop
-same-length-3 c = let gathering = c .before .before .before .before .before .loop .inv in gathering .as-long .heads
+same-length-3 c =
+    let loop = c .before .before .before .before .before .loop in
+    let gathering = loop .inv in gathering .as-long .heads
 
 same-length-4 : tie.Need-same-length-4 Inv-loop μ-loop
-same-length-4 c = let gathering = c .before .before .before .before .before .loop .inv in gathering .as-long .weights
+same-length-4 c =
+    let loop = c .before .before .before .before .before .loop in
+    let gathering = loop .inv in gathering .as-long .weights
 
 same-length-5 : tie.Need-same-length-5 Inv-loop μ-loop
-same-length-5 c = let gathering = c .before .before .before .before .before .loop .inv in gathering .as-long .forward
+same-length-5 c =
+    let loop = c .before .before .before .before .before .loop in
+    let gathering = loop .inv in gathering .as-long .forward
 
 same-length-6 : tie.Need-same-length-6 Inv-loop μ-loop
-same-length-6 c = let gathering = c .before .before .before .before .before .loop .inv in gathering .as-long .backward
+same-length-6 c =
+    let loop = c .before .before .before .before .before .loop in
+    let gathering = loop .inv in gathering .as-long .backward
 
 same-length-7 : tie.Need-same-length-7 Inv-loop μ-loop
 same-length-7 c =
-    let gathering = c .before .before .before .before .before .loop .inv in
-    let ended = c .before .before .end-of-input in
-    text-length _ _ _ _ _ _ _ _ gathering (ended .last .1 .0) (ended .kept .1 .0)
+    let loop = c .before .before .before .before .before .loop in
+    let end-of-input = c .before .before .end-of-input in
+    let gathering = loop .inv in
+    text-length _ _ _ _ _ _ _ _ gathering (end-of-input .last .1 .0) (end-of-input .kept .1 .0)
 
 returns : tie.Need-returns Inv-loop μ-loop
 returns c =
-    let gathering = c .before .before .before .before .before .loop .inv in
-    let left = c .before .before .before .before .loop-test .came in
-    let placed = c .before .before .end-of-input .ensures .law _ (gathering .kept) in
+    let loop = c .before .before .before .before .before .loop in
+    let loop-test = c .before .before .before .before .loop-test in
+    let end-of-input = c .before .before .end-of-input in
+    let gathering = loop .inv in
+    let left = loop-test .came in
+    let placed = end-of-input .ensures .law _ (gathering .kept) in
     gather-end _ _ _ _ _ _ _ _ gathering _ _
     (⊎-elim (λ ended. over-ended _ _ _ _ _ _ _ _ gathering (ended .1 .left)) (λ read. over-read _ _ _ _ _ _ _ _ gathering (read .left)) left) placed
 

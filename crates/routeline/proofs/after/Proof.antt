@@ -9,13 +9,17 @@ told-requires c κs = search needs
 
 look-requires : tie.Need-look-requires
 look-requires c κs =
-    let asked = c .before .before .before .before .before .before .before .before .before .before .pre in
-    c .before .before .before .before .before .before .before .before .told .ensures .law _ _ (asked .0) (asked .1 .0) .sits
+    let entry = c .before .before .before .before .before .before .before .before .before .before in
+    let told = c .before .before .before .before .before .before .before .before .told in
+    let asked = entry .pre in
+    told .ensures .law _ _ (asked .0) (asked .1 .0) .sits
 
 returns : tie.Need-returns
 returns c =
-    let asked = c .before .before .before .before .before .before .before .before .before .before .before .pre in
-    follows _ _ _ _ _ _ _ (asked .0) (asked .1 .0) (c .before .before .before .before .before .before .before .before .before .told .ensures) _ _ _ (c .look .ensures)
+    let entry = c .before .before .before .before .before .before .before .before .before .before .before in
+    let told = c .before .before .before .before .before .before .before .before .before .told in
+    let asked = entry .pre in
+    follows _ _ _ _ _ _ _ (asked .0) (asked .1 .0) (told .ensures) _ _ _ (c .look .ensures)
 
 pub after-spec : {M : Type 1} → statement M
 after-spec = tie.close (tie.spec told-requires look-requires returns)

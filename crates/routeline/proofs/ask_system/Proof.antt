@@ -24,7 +24,11 @@ enum-told-3 : tie.Need-enum-told-3
 enum-told-3 c = search needs
 
 returns : tie.Need-returns
-returns c = rw (c .before .before .before .enum-told .given .1) (answers-write _ _ _ _ _ (c .before .before .before .before .before .pre) (c .before .owed .ensures) (c .say .ensures))
+returns c =
+    let entry = c .before .before .before .before .before in
+    let enum-told = c .before .before .before .enum-told in
+    let owed = c .before .owed in
+    rw (enum-told .given .1) (answers-write _ _ _ _ _ (entry .pre) (owed .ensures) (c .say .ensures))
 
 returns-2 : tie.Need-returns-2
 returns-2 c = rw (c .before .before .enum-told2 .given .1) (answers-read _ _ _ _ (omega (arith, c .hear .kept)) (c .hear .ensures))

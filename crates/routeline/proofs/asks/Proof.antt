@@ -12,7 +12,10 @@ enum-told : tie.Need-enum-told
 enum-told c = search needs
 
 returns-2 : tie.Need-returns-2
-returns-2 c = asks-paid _ (c .before .before .before .before .if1 .left) (rw (c .before .enum-told .given .1, c .if2 .taken))
+returns-2 c =
+    let if1 = c .before .before .before .before .if1 in
+    let enum-told = c .before .enum-told in
+    asks-paid _ (if1 .left) (rw (enum-told .given .1, c .if2 .taken))
 
 enum-told-2 : tie.Need-enum-told-2
 enum-told-2 c = search needs
@@ -21,13 +24,20 @@ enum-told-3 : tie.Need-enum-told-3
 enum-told-3 c = search needs
 
 returns-3 : tie.Need-returns-3
-returns-3 c = asks-paid _ (c .before .before .before .before .if1 .left) (rw (c .before .enum-told .given .1, c .if2 .left))
+returns-3 c =
+    let if1 = c .before .before .before .before .if1 in
+    let enum-told = c .before .enum-told in
+    asks-paid _ (if1 .left) (rw (enum-told .given .1, c .if2 .left))
 
 returns-4 : tie.Need-returns-4
-returns-4 c = asks-paid _ (c .before .before .before .if1 .left) (rw (c .enum-told2 .given .1))
+returns-4 c =
+    let if1 = c .before .before .before .if1 in
+    asks-paid _ (if1 .left) (rw (c .enum-told2 .given .1))
 
 returns-5 : tie.Need-returns-5
-returns-5 c = asks-paid _ (c .before .before .before .if1 .left) (rw (c .enum-told3 .given .1))
+returns-5 c =
+    let if1 = c .before .before .before .if1 in
+    asks-paid _ (if1 .left) (rw (c .enum-told3 .given .1))
 
 pub asks-spec : {M : Type 1} → statement M
 asks-spec =

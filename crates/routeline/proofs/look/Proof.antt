@@ -20,7 +20,9 @@ abbrev μ-loop : tie.MeasureT-loop
     got - from
 
 loop-holds : tie.Need-loop-holds Inv-loop μ-loop
-loop-holds c = (look-start _ _ _ _ (c .before .before .before .before .before .before .before .pre), same-lengths _ _)
+loop-holds c =
+    let entry = c .before .before .before .before .before .before .before in
+    (look-start _ _ _ _ (entry .pre), same-lengths _ _)
 
 looks-on-requires : tie.Need-looks-on-requires Inv-loop μ-loop
 looks-on-requires c κs = tt
@@ -34,16 +36,18 @@ shared-slice-read-take-byte c =
     omega (arith, on .there, loop .inv .0 .sits .heard-within)
 
 take-byte-requires : tie.Need-take-byte-requires Inv-loop μ-loop
-take-byte-requires c κs = c .before .before .before .before .before .before .before .before .before .before .loop .inv .0 .sits .kept
+take-byte-requires c κs =
+    let loop = c .before .before .before .before .before .before .before .before .before .before .loop in
+    loop .inv .0 .sits .kept
 
 add-from : tie.Need-add-from Inv-loop μ-loop
 add-from c =
+    let entry = c .before .before .before .before .before .before .before .before .before .before .before .before .before .before .before .before .before .before .before .before .before .before .before .before .before .before .before .before .before .before .before .before in
     let loop = c .before .before .before .before .before .before .before .before .before .before .before .before .before .before .before .before .before .before .before .before .before .before .before .before .loop in
     let looks-on = c .before .before .before .before .before .before .before .before .before .before .before .before .before .before .before .before .before .before .before .before .before .before .before .looks-on in
     let test = c .before .before .before .before .before .before .before .before .before .before .before .before .before .before .before .before .before .before .before .before .before .before .if1 in
     let on = looks-on-more _ _ _ _ _ (sym (looks-on .ensures) ∙ test .taken) in
-    let start = c .before .before .before .before .before .before .before .before .before .before .before .before .before .before .before .before .before .before .before .before .before .before .before .before .before .before .before .before .before .before .before .before in
-    omega (arith, on .there, loop .inv .0 .sits .heard-within, start .good)
+    omega (arith, on .there, loop .inv .0 .sits .heard-within, entry .good)
 
 loop-less : tie.Need-loop-less Inv-loop μ-loop
 loop-less c =
@@ -57,8 +61,10 @@ loop-again c =
     let loop = c .before .before .before .before .before .before .before .before .before .before .before .before .before .before .before .before .before .before .before .before .before .before .before .before .loop in
     let looks-on = c .before .before .before .before .before .before .before .before .before .before .before .before .before .before .before .before .before .before .before .before .before .before .before .looks-on in
     let test = c .before .before .before .before .before .before .before .before .before .before .before .before .before .before .before .before .before .before .before .before .before .before .if1 in
-    let step = c .before .before .before .before .before .before .before .before .before .before .before .before .before .take-byte in
-    (look-more _ _ _ _ _ (loop .inv .0) (sym (looks-on .ensures) ∙ test .taken) _ _ _ (step .ensures), record { line = omega (arith, step .kept, loop .inv .1 .line); tails = omega (arith, step .kept, loop .inv .1 .tails); heads = omega (arith, step .kept, loop .inv .1 .heads); weights = omega (arith, step .kept, loop .inv .1 .weights); forward = omega (arith, step .kept, loop .inv .1 .forward); backward = omega (arith, step .kept, loop .inv .1 .backward); room-is = omega (arith, step .kept, loop .inv .1 .room-is) })
+    let step = c .before .before .before .before .before .before .before .before .before .before .before .before .before .take-byte in (
+      look-more _ _ _ _ _ (loop .inv .0) (sym (looks-on .ensures) ∙ test .taken) _ _ _ (step .ensures),
+      record { line = omega (arith, step .kept, loop .inv .1 .line); tails = omega (arith, step .kept, loop .inv .1 .tails); heads = omega (arith, step .kept, loop .inv .1 .heads); weights = omega (arith, step .kept, loop .inv .1 .weights); forward = omega (arith, step .kept, loop .inv .1 .forward); backward = omega (arith, step .kept, loop .inv .1 .backward); room-is = omega (arith, step .kept, loop .inv .1 .room-is) },
+    )
 
 same-length : tie.Need-same-length Inv-loop μ-loop
 same-length c = omega (arith, c .before .before .loop .inv .1 .line)

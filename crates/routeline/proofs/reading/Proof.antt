@@ -19,23 +19,30 @@ unmoved-requires c κs = search needs
 
 returns : tie.Need-returns
 returns c =
-    let below : ltZ (c .before .before .before .args .got) (pos 0) ≡ true = rw (toZ-ofZ (c .before .before .before .fits .got)) at (c .before .if1 .taken) in
-    let told : c .unmoved .result ≡ unmovedBy (c .before .before .before .args .error) = rw (toZ-ofZ (c .before .before .before .fits .error)) at (c .unmoved .ensures) in
-    told ∙ answer-unmoved Ended Came (c .before .before .before .args .got) (c .before .before .before .args .error) _ below
+    let entry = c .before .before .before in
+    let if1 = c .before .if1 in
+    let below : ltZ (entry .args .got) (pos 0) ≡ true = rw (toZ-ofZ (entry .fits .got)) at (if1 .taken) in
+    let told : c .unmoved .result ≡ unmovedBy (entry .args .error) = rw (toZ-ofZ (entry .fits .error)) at (c .unmoved .ensures) in
+    told ∙ answer-unmoved Ended Came (entry .args .got) (entry .args .error) _ below
 
 returns-2 : tie.Need-returns-2
 returns-2 c =
-    let above : ltZ (c .before .before .before .args .got) (pos 0) ≡ false = rw (toZ-ofZ (c .before .before .before .fits .got)) at (c .before .if1 .left) in
-    answer-none Ended Came (c .before .before .before .args .got) (c .before .before .before .args .error) _ above (c .if2 .taken)
+    let entry = c .before .before .before in
+    let if1 = c .before .if1 in
+    let above : ltZ (entry .args .got) (pos 0) ≡ false = rw (toZ-ofZ (entry .fits .got)) at (if1 .left) in
+    answer-none Ended Came (entry .args .got) (entry .args .error) _ above (c .if2 .taken)
 
 count-requires : tie.Need-count-requires
 count-requires c κs = search needs
 
 returns-3 : tie.Need-returns-3
 returns-3 c =
-    let above : ltZ (c .before .before .before .before .args .got) (pos 0) ≡ false = rw (toZ-ofZ (c .before .before .before .before .fits .got)) at (c .before .before .if1 .left) in
-    let counted : c .count .result ≡ clamped (c .before .before .before .before .args .got) (length (now (c .before .before .before .before .args .chunk))) = rw (toZ-ofZ (c .before .before .before .before .fits .got)) at (c .count .ensures .1) in
-    answer-some Ended Came (c .before .before .before .before .args .got) (c .before .before .before .before .args .error) _ _ above (c .before .if2 .left) counted
+    let entry = c .before .before .before .before in
+    let if1 = c .before .before .if1 in
+    let if2 = c .before .if2 in
+    let above : ltZ (entry .args .got) (pos 0) ≡ false = rw (toZ-ofZ (entry .fits .got)) at (if1 .left) in
+    let counted : c .count .result ≡ clamped (entry .args .got) (length (now (entry .args .chunk))) = rw (toZ-ofZ (entry .fits .got)) at (c .count .ensures .1) in
+    answer-some Ended Came (entry .args .got) (entry .args .error) _ _ above (if2 .left) counted
 
 pub reading-spec : {M : Type 1} → statement M
 reading-spec = tie.close (tie.spec unmoved-requires returns returns-2 count-requires returns-3)

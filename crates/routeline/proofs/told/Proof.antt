@@ -18,7 +18,10 @@ enum-known-did-2 : tie.Need-enum-known-did-2
 enum-known-did-2 c = search needs
 
 add-t12 : tie.Need-add-t12
-add-t12 c = omega (arith, c .before .before .before .before .before .before .pre .1 .few _ (c .before .before .did2 .given .1))
+add-t12 c =
+    let entry = c .before .before .before .before .before .before in
+    let did2 = c .before .before .did2 in
+    omega (arith, entry .pre .1 .few _ (did2 .given .1))
 
 enum-told-2 : tie.Need-enum-told-2
 enum-told-2 c = search needs
@@ -36,10 +39,16 @@ same-length : tie.Need-same-length
 same-length c = search needs
 
 returns-2 : tie.Need-returns-2
-returns-2 c = rw (c .before .before .before .before .enum-told .given .1) (c .before .before .ended .ensures)
+returns-2 c =
+    let enum-told = c .before .before .before .before .enum-told in
+    let ended = c .before .before .ended in
+    rw (enum-told .given .1) (ended .ensures)
 
 returns-3 : tie.Need-returns-3
-returns-3 c = rw (c .before .before .did2 .given .1) (tells-went _ _ _ (c .before .before .before .before .before .before .pre .1 .few _ (c .before .before .did2 .given .1)))
+returns-3 c =
+    let entry = c .before .before .before .before .before .before in
+    let did2 = c .before .before .did2 in
+    rw (did2 .given .1) (tells-went _ _ _ (entry .pre .1 .few _ (did2 .given .1)))
 
 returns-4 : tie.Need-returns-4
 returns-4 c = rw (c .enum-told2 .given .1) (tells-interrupted _ _)

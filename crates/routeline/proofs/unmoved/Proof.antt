@@ -4,10 +4,14 @@ use Rattle.routeline.proofs.unmoved.Statement.{statement}
 use Rattle.routeline.proofs.unmoved.Tie as tie
 
 returns : tie.Need-returns
-returns c = unmoved-interrupted (c .before .args .error) (c .before .fits .error) (c .if1 .taken)
+returns c =
+    let entry = c .before in
+    unmoved-interrupted (entry .args .error) (entry .fits .error) (c .if1 .taken)
 
 returns-2 : tie.Need-returns-2
-returns-2 c = unmoved-later (c .before .before .args .error) (c .before .before .fits .error) (c .if2 .taken)
+returns-2 c =
+    let entry = c .before .before in
+    unmoved-later (entry .args .error) (entry .fits .error) (c .if2 .taken)
 
 returns-3 : tie.Need-returns-3
 returns-3 c = unmoved-failed (c .before .before .args .error) (c .before .if1 .left) (c .if2 .left)
