@@ -9,8 +9,8 @@ use native.Mathlib.Omega.{arith}
 use borrow.Author.Tests.{eqb-true, eq-eqb, ne-eqb}
 use lib.ListN.{length, take, drop, take-append-drop}
 use Rattle.network.specs.CaseSplit.{by-bool, by-eq, cases2, true≢false}
-use Rattle.district.specs.File.{File, FileStep, step, takeByte, endOfInput, feed, answerFrom, fileAnswer}
-use Rattle.district.specs.FileLaws.{feed-append}
+use Rattle.district.specs.File.{File, step, takeByte, endOfInput, feed, answerFrom, fileAnswer}
+use Rattle.district.specs.FileLaws.{feed-append, restOf, rest-ended}
 use Rattle.routeline.specs.declared.Stage.{Stage}
 use Rattle.routeline.specs.declared.Stage.the-variants.{Listening, AllHeard, CutShort}
 use Rattle.routeline.specs.declared.Ask.the-variants.{Write, Read, Stop}
@@ -79,19 +79,10 @@ feed-one f b = ap (λ (p : List ℕ). step (takeByte f b .file) p) (append-nil (
 feed-more : (f : File) (looked : List ℕ) (b : ℕ) → feed f (looked ++ (b ∷ [])) ≡ step (takeByte (feed f looked .file) b .file) (feed f looked .printed ++ takeByte (feed f looked .file) b .printed)
 feed-more f looked b = rw (feed-append, feed-one)
 
--- where a refusal has ended the file, nothing more is read or printed
-byte-ended : (f : File) (b : ℕ) → f .going ≡ false → takeByte f b ≡ step f []
-unfolding takeByte
-byte-ended f b e = rw e
-
-feed-ended : (f : File) (bytes : List ℕ) → f .going ≡ false → feed f bytes ≡ step f []
-unfolding feed
-feed-ended f [] e = refl
-feed-ended f (b ∷ bytes) e = rw (byte-ended f b e) (ap (λ (s : FileStep). step (s .file) ([] ++ s .printed)) (feed-ended f bytes e))
-
-end-ended : (f : File) → f .going ≡ false → endOfInput f ≡ []
-unfolding endOfInput
-end-ended f e = rw e
+-- what a file prints after some of its bytes comes after what those print
+answer-append : (looked more : List ℕ) → fileAnswer (looked ++ more) ≡ feed unread looked .printed ++ restOf (feed unread looked .file) more
+unfolding answerFrom restOf
+answer-append looked more = rw (feed-append, append-assoc)
 
 -- ---- the invariant
 -- while the input goes on
@@ -297,7 +288,6 @@ module _ (s : Seen) (t : Talk) (k : Invariant s t) where
 
   -- ---- what the invariant says
   kept-promised : Promised s t
-  unfolding answerFrom
   kept-promised =
       record {
         in-order = k .in-order;
@@ -313,8 +303,8 @@ module _ (s : Seen) (t : Talk) (k : Invariant s t) where
     where
       stopped : Hears s t → t .owed ≡ [] → t .file .going ≡ false → (more : List ℕ) → s .written ≡ fileAnswer (s .read ++ more)
       stopped h nothing ended more =
-          let g : feed unread (h .looked) .file .going ≡ false = rw (← h .file-is) ended in
-          rw (h .read-is, append-assoc, feed-append, feed-ended (feed unread (h .looked) .file) (t .heard ++ more) g, append-nil, end-ended (feed unread (h .looked) .file) g, append-nil, h .said, nothing, append-nil)
+          let over : feed unread (h .looked) .file .going ≡ false = rw (← h .file-is) ended in
+          rw (h .read-is, append-assoc, answer-append, rest-ended (feed unread (h .looked) .file) (t .heard ++ more) over, append-nil, h .said, nothing, append-nil)
 
 -- nothing is said or heard at the beginning
 kept-begun : Invariant (seen [] false []) (talk unread [] [] Listening)
