@@ -65,8 +65,9 @@ def first_refusal(nodes, arcs, h, k, start, end, pattern):
     return None
 
 
-def search(nodes, arcs, h, k, start, end, pattern):
-    """(length or None, path, turns, opened by the start side, by the end side, rejected)"""
+def search(nodes, arcs, h, k, start, end, pattern, told=None):
+    """(length or None, path, turns, opened by the start side, by the end side, rejected); `told` is called after each turn, with
+    the labels given (None if the node was rejected) and the side's floor (None if it has no candidate left)."""
     if start == end:
         return 0, [start], 0, 0, 0, 0
     out, into = [[] for _ in range(nodes)], [[] for _ in range(nodes)]
@@ -89,7 +90,7 @@ def search(nodes, arcs, h, k, start, end, pattern):
         _, u = min(candidates(own))
         undecided.discard(u)
         turns += 1
-        label = own["label"][u]
+        label, given = own["label"][u], None
         if best is not None and (
             label + own["pot"][u] - own["pot"][own["target"]] >= best
             or label + other["floor"] - other["pot"][u] >= best
@@ -97,17 +98,22 @@ def search(nodes, arcs, h, k, start, end, pattern):
             rejected += 1
         else:
             own["opened"] += 1
+            given = []
             for v, w in own["arcs"][u]:
                 if v not in undecided:
                     continue
                 if v not in own["label"] or label + w < own["label"][v]:
                     own["label"][v] = label + w
                     own["from"][v] = u
+                    given.append((v, label + w))
                 if v in other["label"] and (best is None or best > own["label"][v] + other["label"][v]):
                     best, meeting = own["label"][v] + other["label"][v], v
         left = candidates(own)
         if left:
             own["floor"] = min(left)[0]
+        if told:
+            floor = own["floor"] if left else None
+            told(side=turn, node=u, label=label, given=given, best=best, floor=floor, other_floor=other["floor"])
     figures = (turns, sides[0]["opened"], sides[1]["opened"], rejected)
     if best is None:
         return (None, []) + figures
@@ -119,19 +125,19 @@ def search(nodes, arcs, h, k, start, end, pattern):
     return (best, path) + figures
 
 
-def query_lines(nodes, arcs, h, k, start, end, pattern):
+def query_lines(nodes, arcs, h, k, start, end, pattern, told=None):
     refused = first_refusal(nodes, arcs, h, k, start, end, pattern)
     if refused:
         return refusal(*refused)
-    length, path, *figures = search(nodes, arcs, h, k, start, end, pattern)
+    length, path, *figures = search(nodes, arcs, h, k, start, end, pattern, told)
     shown = "".join("%04X" % n for n in figures)
     if length is None:
         return "80" + shown + "\n"
     return "81%08X%04X" % (length, len(path)) + shown + "\n" + "82" + "".join("%04X" % v for v in path) + "\n"
 
 
-def answer(data, display=False):
-    """The answer lines of a whole file, as text."""
+def answer(data, display=False, told=None):
+    """The answer lines of a whole file, as text; `told` is called after each turn of its searches."""
     printed, number = [], 1
     size, arcs, h, k, queries = None, [], [], [], 0
     try:
@@ -172,7 +178,7 @@ def answer(data, display=False):
             else:
                 if kind != "04" or (display and queries > 0):
                     raise FileRefusal(11, number)
-                printed.append(query_lines(size[0], arcs, h, k, *fields))
+                printed.append(query_lines(size[0], arcs, h, k, *fields, told))
                 queries += 1
             number += 1
         if queries == 0:
