@@ -1,4 +1,4 @@
--- Why the demands are met, from the definitions up.
+-- Why the demands are met (docs/RULES.md, "The three demands"), from the definitions up:
 --     ByMark                                  the search as the code makes it: the mark for what is missing, compared as a number
 --     Tabled, StateLaws, CodeLaws, CountLaws  tables, states put together over the side, scans of arcs, counts of states
 --     Measures, MeasureLaws, LeastLaws        the numbers that are compared, and the choice of step 3
@@ -11,6 +11,7 @@
 --     EndLaws                                 the state at the end, start equal to end included
 --     Fits, Theorems, Accepted                the demands, of every sound query and of every accepted one
 --     Longest                                 the largest shortest length is reached
+-- Assumes nothing.
 pub mod ByMark
 pub mod Tabled
 pub mod StateLaws

@@ -1,4 +1,4 @@
--- What a query leaves: its answer, and every entry of every lent list. Assumes nothing.
+-- What a query leaves (docs/RULES.md, "The end of a search"): its answer, and every entry of every lent list. Assumes nothing.
 use mathlib.Core.Bool.{cond}
 use mathlib.Core.List.{List, []}
 use Prim.Native.Nat.{ℕ}

@@ -1,5 +1,5 @@
--- The turns of a search, one after the other, as the code sees them: the lent lists and the progress stand for a state of
--- the search by marks, which `nba` proves to be the search. Assumes nothing.
+-- The turns of a search (docs/RULES.md, "The search, turn by turn"), one after the other, as the code sees them: the lent lists
+-- and the progress stand for a state of the search by marks, which `nba` proves to be the search. Assumes nothing.
 use mathlib.Core.Path.{_≡_}
 use mathlib.Core.List.{List}
 use Prim.Native.Nat.{ℕ, _<_, _≤_, _^_}

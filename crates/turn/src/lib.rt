@@ -1,5 +1,6 @@
-// One turn of the search, seen from the side whose turn it is. Every function here is handed the side's own lists first
-// and the other side's after them, with tails and heads exchanged for the end side, so that one text serves both sides.
+// One turn of the search (docs/RULES.md, "The search, turn by turn"), seen from the side whose turn it is. Every function
+// here is handed the side's own lists first and the other side's after them, with tails and heads exchanged for the end
+// side, so that one text serves both sides.
 ghost use mathlib.Core.Path.{_≡_};
 ghost use Prim.Native.Nat.{_+_, _<_, _^_};
 ghost use lib.IntN.{pos, _+ℤ_, _-ℤ_};

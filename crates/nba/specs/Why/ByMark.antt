@@ -1,6 +1,6 @@
--- The search as the code makes it. Step 5 asks what is missing; the code asks no such question, it compares with the mark that
--- stands for what is missing, which is more than any label and any sum of labels, and it adds two labels only where one has
--- fallen. `ByMarkLaws` proves that this is the same search. Assumes nothing.
+-- The search as the code makes it. The rules (docs/RULES.md, step 5) ask what is missing; the code asks no such question, it
+-- compares with the mark that stands for what is missing, which is more than any label and any sum of labels, and it adds two
+-- labels only where one has fallen. `ByMarkLaws` proves that this is the same search. Assumes nothing.
 use mathlib.Core.Bool.{cond, _&&_}
 use mathlib.Core.List.{List, [], _∷_}
 use Prim.Native.Nat.{ℕ, zero, suc, _+_}
