@@ -51,21 +51,23 @@ def read(text):
 
 def functions(crate):
     """Every function of a crate that the borrow checker covers, by its folder below the crate's proofs. The check is asked anew
-    only if some source has changed; what it said is kept in target/places."""
+    only if some source or the checker has changed; what it said is kept in target/places. Its proofs may be wrong, for the modules
+    come from the sources; but it must have written all of them."""
     sources = sorted(ROOT.glob("crates/*/src/**/*.rt"))
     if not any(source.is_relative_to(ROOT / "crates" / crate) for source in sources):
         sys.exit(f"there is no code in crates/{crate}")
-    key = hashlib.sha256(b"".join(source.read_bytes() for source in sources)).hexdigest()
+    version = subprocess.run(["rt", "version"], cwd=ROOT, capture_output=True, check=True).stdout
+    key = hashlib.sha256(version + b"".join(source.read_bytes() for source in sources)).hexdigest()
     kept = ROOT / "target" / "places" / f"{crate}.json"
     said = json.loads(kept.read_text(encoding="utf-8")) if kept.exists() else {}
     if said.get("key") != key:
         said = {"key": key, "functions": {}}
         with tempfile.TemporaryDirectory() as out:
-            subprocess.run(["rt", "dev", crate, "--generated", out], cwd=ROOT, capture_output=True)
+            run = subprocess.run(["rt", "dev", crate, "--generated", out], cwd=ROOT, capture_output=True, text=True)
             for module in Path(out).glob("*/proofs/**/Lts.antt"):
                 folder = module.parent.as_posix().split("/proofs/", 1)[1]
                 said["functions"][folder] = read(module.read_text(encoding="utf-8"))
-        if not said["functions"]:
+        if not said["functions"] or not re.search(r"^generated=\d+$", run.stdout + run.stderr, re.M):
             sys.exit(f"the check generates nothing for {crate}: `rt dev {crate}` says why")
         kept.parent.mkdir(parents=True, exist_ok=True)
         kept.write_text(json.dumps(said), encoding="utf-8")
@@ -88,5 +90,7 @@ def path(steps, thing=None):
 
 def plain(text):
     """A message in the source's terms: names without their modules, and paths into `c` by what they lead to."""
-    text = re.sub(r"(?<![^\s(){}`,])(?:[^\s.(){}`,/]+\.)+(?=[^\s.)])", "", text)
+    letter = r"[^\s.(){}`,/]"  # of a name; a part of a module's path begins with no digit, and a file's ending makes no path
+    file = rf"(?:{letter}|[./])*\.(?:antt|json|md|py|rt|txt)\b"
+    text = re.sub(rf"(?<![^\s(){{}}`,])(?!{file})(?:(?!\d){letter}+\.)+(?=(?!\d){letter})", "", text)
     return re.sub(r"\bc(?: \.before)+ \.(?!before)(\S+?)(?=[\s)}`,;]|$)", r"c@\1", text)
