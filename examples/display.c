@@ -40,6 +40,9 @@ static const struct refusal refusals[] = {
 /* Loading a file again cannot mend what was written so; and it may help where the end is missing. */
 static const char *const carriage_returns = "the file has carriage returns; have its line ends converted to line feeds alone.";
 static const char *const lower_case = "the file has lower-case digits; have it written with upper-case ones.";
+static const char *const byte_order_mark = "the file begins with a byte order mark; have it written without one.";
+static const char *const spaces = "the line has a space; have the file written without spaces.";
+static const char *const no_such_frame = "no frame has this kind and length; ask for a corrected file.";
 static const char *const ends_early = "the file ends too early; load it again, and if that does not help ask for a whole one.";
 
 /* Reads all of a stream into memory that the caller frees. Returns NULL where that fails, with errno set. */
@@ -130,7 +133,7 @@ static size_t count_digits(const uint8_t *at, const uint8_t *end, const char *di
 }
 
 /* What to do about a file refusal of a line, by what stands there in the file: lines are counted from 1. */
-static const char *todo_of_line(const struct refusal *is, uint32_t line, const uint8_t *file, size_t length)
+static const char *todo_of_line(uint32_t number, uint32_t line, const uint8_t *file, size_t length)
 {
     const uint8_t *end = file + length, *at = file, *feed;
 
@@ -143,10 +146,16 @@ static const char *todo_of_line(const struct refusal *is, uint32_t line, const u
     feed = memchr(at, '\n', (size_t)(end - at));
     const uint8_t *line_end = feed == NULL ? end : feed;
     size_t upper = count_digits(at, line_end, "0123456789ABCDEF"), digits = count_digits(at, line_end, "0123456789ABCDEFabcdef");
-    if (at + digits < line_end && at[digits] == '\r') {
-        return carriage_returns;
+    if (at == file && length >= 3 && memcmp(file, "\xEF\xBB\xBF", 3) == 0) {
+        return byte_order_mark;
     }
-    return at + digits == line_end && upper < digits ? lower_case : is->todo;
+    if (at + digits < line_end) {
+        return at[digits] == '\r' ? carriage_returns : at[digits] == ' ' ? spaces : refusals[number].todo;
+    }
+    if (upper < digits) {
+        return lower_case;
+    }
+    return number == 10 && feed != NULL ? no_such_frame : refusals[number].todo;
 }
 
 static void say_refusal(const uint8_t *answer, const uint8_t *file, size_t length)
@@ -158,7 +167,7 @@ static void say_refusal(const uint8_t *answer, const uint8_t *file, size_t lengt
     if (is->place != NULL) {
         printf(" at %s %" PRIu32, is->place, place);
     }
-    printf(": %s.\nWhat to do: %s\n", is->means, number == 10 || number == 11 ? todo_of_line(is, place, file, length) : is->todo);
+    printf(": %s.\nWhat to do: %s\n", is->means, number == 10 || number == 11 ? todo_of_line(number, place, file, length) : is->todo);
 }
 
 /* Says every line of the answer to a file; returns whether one of them was a refusal. */

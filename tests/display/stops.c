@@ -5,7 +5,7 @@
  *
  * The bytes of FILE lie just before memory that may not be read, and the entry is told that the file goes on there. No caller
  * may do so: the header asks for a file that may be read to its end. But an entry that stops at the refusal does not notice,
- * and one that reads on is ended by the system.
+ * and one that reads on is ended by the system, as it must be for a FILE that brings no file refusal.
  */
 #define _DEFAULT_SOURCE
 #include <string.h>

@@ -6,6 +6,7 @@ No run measures time. A program that does not answer or does not end is stopped 
 and that is a failure."""
 import contextlib
 import errno
+import fcntl
 import os
 import select
 import subprocess
@@ -31,7 +32,15 @@ UNREAD = "routeline: the file is cut short, standard input cannot be read: "
 UNWRITTEN = "routeline: the answers are cut short, standard output cannot be written: "
 
 # What is said to whoever gives an argument: what the program is, how it is called, where to read more.
-EXPLAINED = ["routeline answers route queries", "routeline < FILE", "README.md"]
+EXPLAINED = """\
+routeline answers route queries: a district file on standard input, its answer lines on standard output.
+usage: routeline < FILE
+It takes no arguments. README.md says what a file holds and what the answers mean, docs/RULES.md gives the rules.
+"""
+
+# The bytes that a pipe holds, on every machine, and the number of the system's call that sets them (F_SETPIPE_SZ).
+PIPE = 65536
+SET_PIPE_SIZE = 1031
 
 RUNS = {}
 
@@ -110,6 +119,8 @@ class Routeline:
             calls.touch()
             stdin, to = os.pipe()
             by, stdout = os.pipe()
+            for pipe in (to, stdout):
+                fcntl.fcntl(pipe, SET_PIPE_SIZE, PIPE)
             os.set_blocking(to, False)
             if unblocked is not None:
                 os.set_blocking((stdin, stdout)[unblocked], False)
@@ -131,7 +142,11 @@ class Talk:
 
     def send(self, text):
         """Sends bytes by one write, which the pipe takes whole."""
-        if self.to.write(text.encode("latin-1")) != len(text):
+        try:
+            taken = self.to.write(text.encode("latin-1"))
+        except BrokenPipeError:
+            raise Wrong("it has ended though its input is open") from None
+        if taken != len(text):
             raise Wrong("the pipe to the program is full")
 
     def hear(self, wanted):
@@ -265,8 +280,12 @@ def _(routeline):
 
 @run("a query is looked at after the answer before it is written")
 def _(routeline):
-    # The second query becomes another one, in the program's own memory, while the first answer is written.
-    whole(routeline.ran(D5 + QUERIES[0], SWAPS=f"{len(D5)} {QUERIES[3]}"), P1 + P4)
+    # The last query becomes another one, in the program's own memory, while the first answer is written: of two queries, and
+    # of 1,000 that one read brings.
+    for more in (1, 999):
+        before = TO_QUERY + QUERIES[0] * more
+        ran = routeline.ran(before + QUERIES[0], SWAPS=f"{len(before)} {QUERIES[3]}")
+        exactly(ran, *[P1] * more, P4, then=[("read", 0, 0)])
 
 
 @run("undisturbed: one write an answer, and no other call")
@@ -301,10 +320,11 @@ def _(routeline):
 
 @run("a slow reader of a pipe that does not block gets all lines")
 def _(routeline):
+    queries = 2 * PIPE // len(P1)
     with routeline.talk(unblocked=1) as talk:
-        talk.send(TO_QUERY + QUERIES[0] * 3000)
+        talk.send(TO_QUERY + QUERIES[0] * queries)
         talk.meets_a_wait("write")
-        talk.hear(P1 * 3000)
+        talk.hear(P1 * queries)
         talk.over()
 
 
@@ -380,5 +400,5 @@ def _(routeline):
     for words in (["--help"], ["--version"], ["examples/d5.txt"], [""], ["-", "-"]):
         ran = routeline.ran(FOUR, words)
         same("printed", ran.printed, "")
-        same(f"said {ran.words!r} without", [part for part in EXPLAINED if part not in ran.words], [])
+        same("said", ran.words, EXPLAINED)
         same("calls but for the words", [call for call in ran.calls if call.file != 2], [])

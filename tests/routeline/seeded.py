@@ -5,7 +5,7 @@ that must find that. A line `# says: ` has the words with which the program must
 The faults here are in what calls the system. One that a contract reaches is a must-fail edit of the crate instead.
 
 Such a program is compiled without a proof: `rt try` compiles what is not proved, and a linker that stands in for the kit's
-keeps what it made. It is for the runs and nothing else."""
+keeps what it made. It is for the runs and nothing else. The program without an edit is compiled so too: it must pass them."""
 import os
 import platform
 import shutil
@@ -75,14 +75,15 @@ def kit_that_keeps(program, folder):
     linker.chmod(0o755)
 
 
-def compiled(edit, folder):
-    """Compiles `routeline` with an edit, in an empty folder, and gives the program's path."""
+def compiled(folder, edit):
+    """Compiles `routeline` in an empty folder, with an edit or, where that is None, as it is, and gives the program's path."""
     program = folder / "routeline"
     kit_that_keeps(program, folder / "kit")
     beside(folder / "crates", ROOT / "crates", "routeline")
     shutil.copytree(ROOT / "crates/routeline", folder / "crates/routeline")
     shutil.copy(ROOT / "crates.txt", folder)
-    put_in(edit, folder / "crates/routeline")
+    if edit:
+        put_in(edit, folder / "crates/routeline")
     try:
         done = subprocess.run(["rt", "try", "routeline"], cwd=folder, env={**os.environ, "RATTLE_HOME": str(folder / "kit")},
                               capture_output=True, text=True, timeout=PATIENCE)

@@ -58,7 +58,7 @@ pub data Event : Type 0 where
   over : Event
   -- so many of the bytes that are owed were written
   went : ℕ → Event
-  -- nothing happened: the call was interrupted, or it would have had to wait
+  -- nothing happened: the call was interrupted, it would have had to wait, or a write took nothing
   again : Event
   -- the call failed
   failed : Event

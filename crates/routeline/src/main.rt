@@ -1,8 +1,8 @@
 // Program `routeline`: a district file on standard input, its answer lines on standard output (docs/RULES.md, "The program").
 // The program is a talk with the system. What it asks next, and what the system's answer changes, is decided by functions over
 // numbers and lists, each under a contract (specs/Talk.antt): nothing is read while something is owed, and an answer is written
-// before a further byte is looked at. What no contract can reach is small and stands at the end: `hear`, `say` and `pause`, which
-// call the system, the words for people, and what `main` does with them. The memory is fixed: the lists of `main`.
+// before a further byte is looked at. What no contract can reach is small and stands at the end: `pause`, `tell`, `hear`, `say` and
+// `ask_system` as far as they call the system, the words for people, and `main`. The memory is fixed: the lists of `main`.
 ghost use mathlib.Core.Path.{_≡_};
 ghost use lib.ListN.{length};
 ghost use lib.Seq.{slice};
@@ -323,7 +323,6 @@ fn pause() {
 fn tell(did: Did, words: &[u8]) {
     if let Did::Failed = did {
         os::fail(words);
-        return;
     }
     if let Did::WouldWait = did {
         pause();

@@ -1,4 +1,4 @@
--- `routeline::main` meets its contract. The loop's invariant is `Holds`: the talk that the program holds is one that can come to
+-- `routeline::main` ends and stays within its lists. Its loop keeps `Holds`: the talk that the program holds is one that can come to
 -- pass, from its beginning on, by what was read and written. What the system does is an event that can come of what was asked,
 -- and each event keeps it. The measure is the count of what may still be asked. Assumes nothing.
 use mathlib.Core.Path.{_≡_}

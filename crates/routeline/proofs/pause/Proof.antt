@@ -1,4 +1,4 @@
--- `routeline::pause` meets its contract: a walk of its statements, by hand. Each of the two records is lent to `nanosleep` for a
+-- `routeline::pause` ends and gives back what it lends: a walk of its statements, by hand. Each of the two records is lent to `nanosleep` for a
 -- lifetime that is made for the call; both lifetimes end after it, and each record's cell is whole again, whatever it then holds,
 -- and is freed. All that is known of `nanosleep` is that it meets its contract. Assumes nothing.
 use mathlib.Core.Path.{refl}
