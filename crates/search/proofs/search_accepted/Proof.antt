@@ -8,6 +8,7 @@ use Rattle.network.specs.Query.{Query, query}
 use Rattle.network.specs.SoundLaws.{accepted-sound, accepted-enough}
 use Rattle.search.specs.Promise.{LentLists, lentLists, lengths}
 use Rattle.search.proofs.AnswerLaws.{cut-long, cut-left, cut-same}
+use borrow.Author.Needs.{needs}
 use Rattle.search.proofs.search_accepted.Statement.{statement}
 use Rattle.search.proofs.search_accepted.Tie as tie
 
@@ -117,9 +118,7 @@ same-length-5 c =
     cut-same (entry .args .nodes) (entry .args .states .now) (searched .last .1 .1 .1 .1 .1 .1 .1 .1 .1 .1 .1 .1 .0) (enough entry .for-states) (searched .kept .1 .1 .1 .1 .1 .1 .1 .1 .1 .1 .1 .1 .0)
 
 same-length-6 : tie.Need-same-length-6
-same-length-6 c =
-    let searched = c .before .before .before .before .before .before .before .before .before .before .before .before .searched in
-    searched .kept .1 .1 .1 .1 .1 .1 .1 .1 .1 .1 .1 .1 .1 .0
+same-length-6 c = search needs
 
 returns : tie.Need-returns
 returns c =

@@ -15,29 +15,19 @@ count-states-requires c κs =
     rw (find .kept .1 .1 .1 .1 .1 .1 .1 .1 .1 .1 .1 .1 .0) (entry .pre .0 .sized .few-nodes)
 
 same-length : tie.Need-same-length
-same-length c =
-    let find = c .before .before .before .before .before .before .before .before .before .before .before .before .before .find in
-    find .kept .1 .1 .1 .1 .1 .1 .1 .1 .0
+same-length c = search needs
 
 same-length-2 : tie.Need-same-length-2
-same-length-2 c =
-    let find = c .before .before .before .before .before .before .before .before .before .before .before .before .before .find in
-    find .kept .1 .1 .1 .1 .1 .1 .1 .1 .1 .0
+same-length-2 c = search needs
 
 same-length-3 : tie.Need-same-length-3
-same-length-3 c =
-    let find = c .before .before .before .before .before .before .before .before .before .before .before .before .before .find in
-    find .kept .1 .1 .1 .1 .1 .1 .1 .1 .1 .1 .0
+same-length-3 c = search needs
 
 same-length-4 : tie.Need-same-length-4
-same-length-4 c =
-    let find = c .before .before .before .before .before .before .before .before .before .before .before .before .before .find in
-    find .kept .1 .1 .1 .1 .1 .1 .1 .1 .1 .1 .1 .0
+same-length-4 c = search needs
 
 same-length-5 : tie.Need-same-length-5
-same-length-5 c =
-    let find = c .before .before .before .before .before .before .before .before .before .before .before .before .before .find in
-    find .kept .1 .1 .1 .1 .1 .1 .1 .1 .1 .1 .1 .1 .0
+same-length-5 c = search needs
 
 returns : tie.Need-returns
 returns c =
@@ -60,29 +50,19 @@ write-path-requires c κs =
     path-room (entry .pre .0) (find .ensures) (if1 .left) (entry .pre .1 .1)
 
 same-length-6 : tie.Need-same-length-6
-same-length-6 c =
-    let find = c .before .before .before .before .before .before .before .before .before .before .before .before .before .before .before .before .before .before .before .find in
-    find .kept .1 .1 .1 .1 .1 .1 .1 .1 .0
+same-length-6 c = search needs
 
 same-length-7 : tie.Need-same-length-7
-same-length-7 c =
-    let find = c .before .before .before .before .before .before .before .before .before .before .before .before .before .before .before .before .before .before .before .find in
-    find .kept .1 .1 .1 .1 .1 .1 .1 .1 .1 .0
+same-length-7 c = search needs
 
 same-length-8 : tie.Need-same-length-8
-same-length-8 c =
-    let find = c .before .before .before .before .before .before .before .before .before .before .before .before .before .before .before .before .before .before .before .find in
-    find .kept .1 .1 .1 .1 .1 .1 .1 .1 .1 .1 .0
+same-length-8 c = search needs
 
 same-length-9 : tie.Need-same-length-9
-same-length-9 c =
-    let find = c .before .before .before .before .before .before .before .before .before .before .before .before .before .before .before .before .before .before .before .find in
-    find .kept .1 .1 .1 .1 .1 .1 .1 .1 .1 .1 .1 .0
+same-length-9 c = search needs
 
 same-length-10 : tie.Need-same-length-10
-same-length-10 c =
-    let find = c .before .before .before .before .before .before .before .before .before .before .before .before .before .before .before .before .before .before .before .find in
-    find .kept .1 .1 .1 .1 .1 .1 .1 .1 .1 .1 .1 .1 .0
+same-length-10 c = search needs
 
 same-length-11 : tie.Need-same-length-11
 same-length-11 c = c .before .before .write-path .kept .0

@@ -42,29 +42,19 @@ begin-requires c κs =
     )
 
 same-length : tie.Need-same-length Inv-turns μ-turns
-same-length c =
-    let begin = c .before .before .before .before .before .before .before .before .before .before .before .begin in
-    begin .kept .1 .1 .1 .1 .0
+same-length c = search needs
 
 same-length-2 : tie.Need-same-length-2 Inv-turns μ-turns
-same-length-2 c =
-    let begin = c .before .before .before .before .before .before .before .before .before .before .before .begin in
-    begin .kept .1 .1 .1 .1 .1 .0
+same-length-2 c = search needs
 
 same-length-3 : tie.Need-same-length-3 Inv-turns μ-turns
-same-length-3 c =
-    let begin = c .before .before .before .before .before .before .before .before .before .before .before .begin in
-    begin .kept .1 .1 .1 .1 .1 .1 .0
+same-length-3 c = search needs
 
 same-length-4 : tie.Need-same-length-4 Inv-turns μ-turns
-same-length-4 c =
-    let begin = c .before .before .before .before .before .before .before .before .before .before .before .begin in
-    begin .kept .1 .1 .1 .1 .1 .1 .1 .0
+same-length-4 c = search needs
 
 same-length-5 : tie.Need-same-length-5 Inv-turns μ-turns
-same-length-5 c =
-    let begin = c .before .before .before .before .before .before .before .before .before .before .before .begin in
-    begin .kept .1 .1 .1 .1 .1 .1 .1 .1 .0
+same-length-5 c = search needs
 
 returns : tie.Need-returns Inv-turns μ-turns
 returns c =

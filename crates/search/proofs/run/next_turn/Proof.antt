@@ -32,22 +32,16 @@ side-turn-requires c κs =
     )
 
 same-length : tie.Need-same-length
-same-length c =
-    let side-turn = c .before .before .before .before .before .before .side-turn in
-    side-turn .kept .1 .1 .1 .1 .1 .0
+same-length c = search needs
 
 same-length-2 : tie.Need-same-length-2
-same-length-2 c =
-    let side-turn = c .before .before .before .before .before .before .side-turn in
-    side-turn .kept .1 .1 .1 .1 .1 .1 .0
+same-length-2 c = search needs
 
 same-length-3 : tie.Need-same-length-3
 same-length-3 c = refl
 
 same-length-4 : tie.Need-same-length-4
-same-length-4 c =
-    let side-turn = c .before .before .before .before .before .before .side-turn in
-    side-turn .kept .1 .1 .1 .1 .1 .1 .1 .1 .0
+same-length-4 c = search needs
 
 returns : tie.Need-returns
 returns c =
@@ -83,19 +77,13 @@ same-length-5 : tie.Need-same-length-5
 same-length-5 c = refl
 
 same-length-6 : tie.Need-same-length-6
-same-length-6 c =
-    let side-turn2 = c .before .before .before .before .before .before .before .side-turn2 in
-    side-turn2 .kept .1 .1 .1 .1 .1 .0
+same-length-6 c = search needs
 
 same-length-7 : tie.Need-same-length-7
-same-length-7 c =
-    let side-turn2 = c .before .before .before .before .before .before .before .side-turn2 in
-    side-turn2 .kept .1 .1 .1 .1 .1 .1 .0
+same-length-7 c = search needs
 
 same-length-8 : tie.Need-same-length-8
-same-length-8 c =
-    let side-turn2 = c .before .before .before .before .before .before .before .side-turn2 in
-    side-turn2 .kept .1 .1 .1 .1 .1 .1 .1 .1 .0
+same-length-8 c = search needs
 
 returns-2 : tie.Need-returns-2
 returns-2 c =
