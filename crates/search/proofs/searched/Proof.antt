@@ -1,6 +1,7 @@
 -- `searched` meets its contract: `find` leaves the tables of the state at the end, and figures, path and answer are read off
 -- them. Assumes nothing.
 use Rattle.search.proofs.AnswerLaws.{filled-at-end, answers-none, answers-route, shows-none, shows-route, path-room}
+use native.Mathlib.Omega.{arith}
 use borrow.Author.Needs.{needs}
 use Rattle.search.proofs.searched.Statement.{statement}
 use Rattle.search.proofs.searched.Tie as tie
@@ -11,8 +12,7 @@ find-requires c κs = search needs
 count-states-requires : tie.Need-count-states-requires
 count-states-requires c κs =
     let entry = c .before .before .before .before .before .before .before .before .before .before .before .before .before .before .before .before .before .before .before .before .before .before .before .before .before .before .before in
-    let find = c .before .before .before .before .before .before .before .before .before .before .before .find in
-    rw (find .kept .1 .1 .1 .1 .1 .1 .1 .1 .1 .1 .1 .1 .0) (entry .pre .0 .sized .few-nodes)
+    omega (arith, entry .pre .0 .sized .few-nodes)
 
 same-length : tie.Need-same-length
 same-length c = search needs
@@ -65,7 +65,7 @@ same-length-10 : tie.Need-same-length-10
 same-length-10 c = search needs
 
 same-length-11 : tie.Need-same-length-11
-same-length-11 c = c .before .before .write-path .kept .0
+same-length-11 c = search needs
 
 returns-2 : tie.Need-returns-2
 returns-2 c =
