@@ -3,7 +3,7 @@ use mathlib.Core.Path.{_≡_, refl, sym, ap, _∙_}
 use mathlib.Core.List.{List, _++_}
 use Prim.Native.Nat.{ℕ, _≤_, _<_}
 use native.Mathlib.Omega.{arith}
-use lib.ListN.{length, take, drop, length-append, length-drop}
+use lib.ListN.{length, take, drop}
 use lib.Seq.{length-take-le}
 use borrow.Author.Tests.{lt-ltb, le-ltb}
 use Rattle.network.specs.declared.Answer.{Answer}
@@ -104,10 +104,6 @@ cut-long {n} l e = record {
   beyond-long = length-take-le n (l .end-neighbours) (e .for-end-neighbours);
   states-long = length-take-le n (l .states) (e .for-states);
 }
-
--- what is put before the entries beyond is as long as what stood there, so the whole list is as long as it was
-pub cut-same : (n : ℕ) (l cut : List ℕ) → n ≤ length l → length cut ≡ length (take n l) → length (cut ++ drop n l) ≡ length l
-cut-same n l cut e h = simp (length-append, length-drop) (omega (arith, e, h, length-take-le n l e))
 
 -- the end state before what stood beyond it is what the search leaves
 pub cut-left : (q : Query) (before : LentLists) {r : Answer} {after : LentLists} → SearchedInPlace q (before .path) r after → let n = q .network .nodes in

@@ -37,14 +37,14 @@ array-share-prefix-text c =
     let entry = c .before .before .before .before .before .before .before .before .before .before .before .before .before .before .before .before .before in
     let gathered = c .before .before .before .before .before .before .before .gather in
     let file = entry .args .file .now in
-    omega (arith, gathered .ensures .count-is, display-bytes file, gathered .kept .1 .1 .1 .1 .1 .1 .1 .0)
+    omega (arith, gathered .ensures .count-is, display-bytes file)
 
 slice-aggregate-place : tie.Need-slice-aggregate-place
 slice-aggregate-place c =
     let entry = c .before .before .before .before .before .before .before .before .before .before .before .before .before .before .before .before .before .before in
     let gathered = c .before .before .before .before .before .before .before .before .gather in
     let file = entry .args .file .now in
-    simp length-take (omega (arith, gathered .ensures .count-is, display-bytes file, gathered .kept .1 .1 .1 .1 .1 .1 .1 .0))
+    simp length-take (omega (arith, gathered .ensures .count-is, display-bytes file))
 
 place-requires : tie.Need-place-requires
 place-requires c κs = search needs

@@ -73,17 +73,22 @@ loop-again c =
     let loop = c .before .before .before .before .before .before .before .before .before .before .before .before .before .before .before .before .before .before .before .before .before .before .before .before .before .loop in
     let loop-test = c .before .before .before .before .before .before .before .before .before .before .before .before .before .before .before .before .before .before .before .before .before .before .before .before .loop-test in
     let take-byte = c .before .before .before .before .before .before .before .before .before .before .before .before .before .before .take-byte in
+    let line-here = c .before .before .before .before .before .before .before .before .before .before .before .before .before .line in
+    let tails-here = c .before .before .before .before .before .before .before .before .before .before .before .tails in
+    let heads-here = c .before .before .before .before .before .before .before .before .before .heads in
+    let weights-here = c .before .before .before .before .before .before .before .weights in
+    let forward-here = c .before .before .before .before .before .forward in
+    let backward-here = c .before .before .before .before .backward in
     let gathering = loop .inv in
     let more = loop-test .taken in
-    let lengths = take-byte .kept .1 .1 in
     gather-byte _ _ _ _ _ _ _ _ gathering more _ _ _ (take-byte .ensures)
     (record {
-      line = lengths .0;
-      tails = lengths .1 .0;
-      heads = lengths .1 .1 .0;
-      weights = lengths .1 .1 .1 .0;
-      forward = lengths .1 .1 .1 .1 .0;
-      backward = lengths .1 .1 .1 .1 .1 .0;
+      line = line-here .given;
+      tails = tails-here .given;
+      heads = heads-here .given;
+      weights = weights-here .given;
+      forward = forward-here .given;
+      backward = backward-here .given;
     })
 
 -- ---- the end of input

@@ -102,9 +102,8 @@ returns-6 c =
     let at-if1 = c .before .before in
     let number = c .before .number in
     let k = number .result in
-    let r = c .match .rest in
     let other : Unsound ≡ ofKind k (entry .args .line .now) =
-    simp (ne-eqb k 1 (r .0 .0 .0 .0 .1), ne-eqb k 2 (r .0 .0 .0 .1), ne-eqb k 3 (r .0 .0 .1), ne-eqb k 4 (r .0 .1), ne-eqb k 5 (r .1)) in
+    simp (ne-eqb k 1 (search needs), ne-eqb k 2 (search needs), ne-eqb k 3 (search needs), ne-eqb k 4 (search needs), ne-eqb k 5 (search needs)) in
     other ∙ by-kind _ k (digits at-if1) (sym (number .ensures .0))
 
 returns-7 : tie.Need-returns-7

@@ -42,34 +42,22 @@ returns c =
     kept-refused (asked entry) (lent entry) _ (sym (check-query .ensures) ∙ verdict .given .1)
 
 same-length : tie.Need-same-length
-same-length c =
-    let search-accepted = c .before .before .before .before .before .before .before .before .before .before .before .before .search-accepted in
-    search-accepted .kept .1 .1 .1 .1 .1 .1 .1 .1 .1 .0
+same-length c = search needs
 
 same-length-2 : tie.Need-same-length-2
-same-length-2 c =
-    let search-accepted = c .before .before .before .before .before .before .before .before .before .before .before .before .search-accepted in
-    search-accepted .kept .1 .1 .1 .1 .1 .1 .1 .1 .1 .1 .0
+same-length-2 c = search needs
 
 same-length-3 : tie.Need-same-length-3
-same-length-3 c =
-    let search-accepted = c .before .before .before .before .before .before .before .before .before .before .before .before .search-accepted in
-    search-accepted .kept .1 .1 .1 .1 .1 .1 .1 .1 .1 .1 .1 .0
+same-length-3 c = search needs
 
 same-length-4 : tie.Need-same-length-4
-same-length-4 c =
-    let search-accepted = c .before .before .before .before .before .before .before .before .before .before .before .before .search-accepted in
-    search-accepted .kept .1 .1 .1 .1 .1 .1 .1 .1 .1 .1 .1 .1 .0
+same-length-4 c = search needs
 
 same-length-5 : tie.Need-same-length-5
-same-length-5 c =
-    let search-accepted = c .before .before .before .before .before .before .before .before .before .before .before .before .search-accepted in
-    search-accepted .kept .1 .1 .1 .1 .1 .1 .1 .1 .1 .1 .1 .1 .1 .0
+same-length-5 c = search needs
 
 same-length-6 : tie.Need-same-length-6
-same-length-6 c =
-    let search-accepted = c .before .before .before .before .before .before .before .before .before .before .before .before .search-accepted in
-    search-accepted .kept .1 .1 .1 .1 .1 .1 .1 .1 .1 .1 .1 .1 .1 .1 .0
+same-length-6 c = search needs
 
 returns-2 : tie.Need-returns-2
 returns-2 c =

@@ -7,7 +7,8 @@ use Rattle.network.specs.Network.{network}
 use Rattle.network.specs.Query.{Query, query}
 use Rattle.network.specs.SoundLaws.{accepted-sound, accepted-enough}
 use Rattle.search.specs.Promise.{LentLists, lentLists, lengths}
-use Rattle.search.proofs.AnswerLaws.{cut-long, cut-left, cut-same}
+use Rattle.search.proofs.AnswerLaws.{cut-long, cut-left}
+use borrow.Author.Needs.{needs}
 use Rattle.search.proofs.search_accepted.Statement.{statement}
 use Rattle.search.proofs.search_accepted.Tie as tie
 
@@ -87,39 +88,22 @@ searched-requires c κs =
     )
 
 same-length : tie.Need-same-length
-same-length c =
-    let entry = c .before .before .before .before .before .before .before .before .before .before .before .before .before .before .before .before .before .before .before .before .before .before .before .before .before .before .before .before .before in
-    let searched = c .before .before .before .before .before .before .before .before .before .before .before .before .searched in
-    cut-same (entry .args .nodes) (entry .args .start-labels .now) (searched .last .1 .1 .1 .1 .1 .1 .1 .1 .0) (enough entry .for-start-labels) (searched .kept .1 .1 .1 .1 .1 .1 .1 .1 .0)
+same-length c = search needs
 
 same-length-2 : tie.Need-same-length-2
-same-length-2 c =
-    let entry = c .before .before .before .before .before .before .before .before .before .before .before .before .before .before .before .before .before .before .before .before .before .before .before .before .before .before .before .before .before in
-    let searched = c .before .before .before .before .before .before .before .before .before .before .before .before .searched in
-    cut-same (entry .args .nodes) (entry .args .start-neighbours .now) (searched .last .1 .1 .1 .1 .1 .1 .1 .1 .1 .0) (enough entry .for-start-neighbours) (searched .kept .1 .1 .1 .1 .1 .1 .1 .1 .1 .0)
+same-length-2 c = search needs
 
 same-length-3 : tie.Need-same-length-3
-same-length-3 c =
-    let entry = c .before .before .before .before .before .before .before .before .before .before .before .before .before .before .before .before .before .before .before .before .before .before .before .before .before .before .before .before .before in
-    let searched = c .before .before .before .before .before .before .before .before .before .before .before .before .searched in
-    cut-same (entry .args .nodes) (entry .args .end-labels .now) (searched .last .1 .1 .1 .1 .1 .1 .1 .1 .1 .1 .0) (enough entry .for-end-labels) (searched .kept .1 .1 .1 .1 .1 .1 .1 .1 .1 .1 .0)
+same-length-3 c = search needs
 
 same-length-4 : tie.Need-same-length-4
-same-length-4 c =
-    let entry = c .before .before .before .before .before .before .before .before .before .before .before .before .before .before .before .before .before .before .before .before .before .before .before .before .before .before .before .before .before in
-    let searched = c .before .before .before .before .before .before .before .before .before .before .before .before .searched in
-    cut-same (entry .args .nodes) (entry .args .end-neighbours .now) (searched .last .1 .1 .1 .1 .1 .1 .1 .1 .1 .1 .1 .0) (enough entry .for-end-neighbours) (searched .kept .1 .1 .1 .1 .1 .1 .1 .1 .1 .1 .1 .0)
+same-length-4 c = search needs
 
 same-length-5 : tie.Need-same-length-5
-same-length-5 c =
-    let entry = c .before .before .before .before .before .before .before .before .before .before .before .before .before .before .before .before .before .before .before .before .before .before .before .before .before .before .before .before .before in
-    let searched = c .before .before .before .before .before .before .before .before .before .before .before .before .searched in
-    cut-same (entry .args .nodes) (entry .args .states .now) (searched .last .1 .1 .1 .1 .1 .1 .1 .1 .1 .1 .1 .1 .0) (enough entry .for-states) (searched .kept .1 .1 .1 .1 .1 .1 .1 .1 .1 .1 .1 .1 .0)
+same-length-5 c = search needs
 
 same-length-6 : tie.Need-same-length-6
-same-length-6 c =
-    let searched = c .before .before .before .before .before .before .before .before .before .before .before .before .searched in
-    searched .kept .1 .1 .1 .1 .1 .1 .1 .1 .1 .1 .1 .1 .1 .0
+same-length-6 c = search needs
 
 returns : tie.Need-returns
 returns c =

@@ -1,6 +1,7 @@
 -- `searched` meets its contract: `find` leaves the tables of the state at the end, and figures, path and answer are read off
 -- them. Assumes nothing.
 use Rattle.search.proofs.AnswerLaws.{filled-at-end, answers-none, answers-route, shows-none, shows-route, path-room}
+use native.Mathlib.Omega.{arith}
 use borrow.Author.Needs.{needs}
 use Rattle.search.proofs.searched.Statement.{statement}
 use Rattle.search.proofs.searched.Tie as tie
@@ -11,33 +12,22 @@ find-requires c κs = search needs
 count-states-requires : tie.Need-count-states-requires
 count-states-requires c κs =
     let entry = c .before .before .before .before .before .before .before .before .before .before .before .before .before .before .before .before .before .before .before .before .before .before .before .before .before .before .before in
-    let find = c .before .before .before .before .before .before .before .before .before .before .before .find in
-    rw (find .kept .1 .1 .1 .1 .1 .1 .1 .1 .1 .1 .1 .1 .0) (entry .pre .0 .sized .few-nodes)
+    omega (arith, entry .pre .0 .sized .few-nodes)
 
 same-length : tie.Need-same-length
-same-length c =
-    let find = c .before .before .before .before .before .before .before .before .before .before .before .before .before .find in
-    find .kept .1 .1 .1 .1 .1 .1 .1 .1 .0
+same-length c = search needs
 
 same-length-2 : tie.Need-same-length-2
-same-length-2 c =
-    let find = c .before .before .before .before .before .before .before .before .before .before .before .before .before .find in
-    find .kept .1 .1 .1 .1 .1 .1 .1 .1 .1 .0
+same-length-2 c = search needs
 
 same-length-3 : tie.Need-same-length-3
-same-length-3 c =
-    let find = c .before .before .before .before .before .before .before .before .before .before .before .before .before .find in
-    find .kept .1 .1 .1 .1 .1 .1 .1 .1 .1 .1 .0
+same-length-3 c = search needs
 
 same-length-4 : tie.Need-same-length-4
-same-length-4 c =
-    let find = c .before .before .before .before .before .before .before .before .before .before .before .before .before .find in
-    find .kept .1 .1 .1 .1 .1 .1 .1 .1 .1 .1 .1 .0
+same-length-4 c = search needs
 
 same-length-5 : tie.Need-same-length-5
-same-length-5 c =
-    let find = c .before .before .before .before .before .before .before .before .before .before .before .before .before .find in
-    find .kept .1 .1 .1 .1 .1 .1 .1 .1 .1 .1 .1 .1 .0
+same-length-5 c = search needs
 
 returns : tie.Need-returns
 returns c =
@@ -60,32 +50,22 @@ write-path-requires c κs =
     path-room (entry .pre .0) (find .ensures) (if1 .left) (entry .pre .1 .1)
 
 same-length-6 : tie.Need-same-length-6
-same-length-6 c =
-    let find = c .before .before .before .before .before .before .before .before .before .before .before .before .before .before .before .before .before .before .before .find in
-    find .kept .1 .1 .1 .1 .1 .1 .1 .1 .0
+same-length-6 c = search needs
 
 same-length-7 : tie.Need-same-length-7
-same-length-7 c =
-    let find = c .before .before .before .before .before .before .before .before .before .before .before .before .before .before .before .before .before .before .before .find in
-    find .kept .1 .1 .1 .1 .1 .1 .1 .1 .1 .0
+same-length-7 c = search needs
 
 same-length-8 : tie.Need-same-length-8
-same-length-8 c =
-    let find = c .before .before .before .before .before .before .before .before .before .before .before .before .before .before .before .before .before .before .before .find in
-    find .kept .1 .1 .1 .1 .1 .1 .1 .1 .1 .1 .0
+same-length-8 c = search needs
 
 same-length-9 : tie.Need-same-length-9
-same-length-9 c =
-    let find = c .before .before .before .before .before .before .before .before .before .before .before .before .before .before .before .before .before .before .before .find in
-    find .kept .1 .1 .1 .1 .1 .1 .1 .1 .1 .1 .1 .0
+same-length-9 c = search needs
 
 same-length-10 : tie.Need-same-length-10
-same-length-10 c =
-    let find = c .before .before .before .before .before .before .before .before .before .before .before .before .before .before .before .before .before .before .before .find in
-    find .kept .1 .1 .1 .1 .1 .1 .1 .1 .1 .1 .1 .1 .0
+same-length-10 c = search needs
 
 same-length-11 : tie.Need-same-length-11
-same-length-11 c = c .before .before .write-path .kept .0
+same-length-11 c = search needs
 
 returns-2 : tie.Need-returns-2
 returns-2 c =

@@ -51,29 +51,19 @@ cast-t39 c =
     wide-fits {z = potentialAt (entry .args .backward .now) (entry .args .end)} (record { sfits = c .t38 .given })
 
 same-length : tie.Need-same-length
-same-length c =
-    let begin-labels = c .before .before .before .before .before .before .before .before .before .before .before .before .before .before .before .before .before .before .before .before .before .before .before .before .begin-labels in
-    begin-labels .kept .0
+same-length c = search needs
 
 same-length-2 : tie.Need-same-length-2
-same-length-2 c =
-    let begin-neighbours = c .before .before .before .before .before .before .before .before .before .before .before .before .before .before .before .before .before .before .before .before .begin-neighbours in
-    begin-neighbours .kept .0
+same-length-2 c = search needs
 
 same-length-3 : tie.Need-same-length-3
-same-length-3 c =
-    let begin-labels2 = c .before .before .before .before .before .before .before .before .before .before .before .before .before .before .before .before .begin-labels2 in
-    begin-labels2 .kept .0
+same-length-3 c = search needs
 
 same-length-4 : tie.Need-same-length-4
-same-length-4 c =
-    let begin-neighbours2 = c .before .before .before .before .before .before .before .before .before .before .before .before .begin-neighbours2 in
-    begin-neighbours2 .kept .0
+same-length-4 c = search needs
 
 same-length-5 : tie.Need-same-length-5
-same-length-5 c =
-    let begin-states = c .before .before .before .before .before .before .before .before .begin-states in
-    begin-states .kept .0
+same-length-5 c = search needs
 
 returns : tie.Need-returns
 returns c =

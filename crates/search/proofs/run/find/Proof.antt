@@ -42,29 +42,19 @@ begin-requires c κs =
     )
 
 same-length : tie.Need-same-length Inv-turns μ-turns
-same-length c =
-    let begin = c .before .before .before .before .before .before .before .before .before .before .before .begin in
-    begin .kept .1 .1 .1 .1 .0
+same-length c = search needs
 
 same-length-2 : tie.Need-same-length-2 Inv-turns μ-turns
-same-length-2 c =
-    let begin = c .before .before .before .before .before .before .before .before .before .before .before .begin in
-    begin .kept .1 .1 .1 .1 .1 .0
+same-length-2 c = search needs
 
 same-length-3 : tie.Need-same-length-3 Inv-turns μ-turns
-same-length-3 c =
-    let begin = c .before .before .before .before .before .before .before .before .before .before .before .begin in
-    begin .kept .1 .1 .1 .1 .1 .1 .0
+same-length-3 c = search needs
 
 same-length-4 : tie.Need-same-length-4 Inv-turns μ-turns
-same-length-4 c =
-    let begin = c .before .before .before .before .before .before .before .before .before .before .before .begin in
-    begin .kept .1 .1 .1 .1 .1 .1 .1 .0
+same-length-4 c = search needs
 
 same-length-5 : tie.Need-same-length-5 Inv-turns μ-turns
-same-length-5 c =
-    let begin = c .before .before .before .before .before .before .before .before .before .before .before .begin in
-    begin .kept .1 .1 .1 .1 .1 .1 .1 .1 .0
+same-length-5 c = search needs
 
 returns : tie.Need-returns Inv-turns μ-turns
 returns c =
@@ -76,13 +66,17 @@ turns-holds : tie.Need-turns-holds Inv-turns μ-turns
 turns-holds c =
     let entry = c .before .before .before .before .before .before .before .before .before .before .before .before .before .before .before .before .before .before .before .before .before .before .before .before .before .before in
     let begin = c .before .before .before .before .before .before .before .before .before .before .before .begin in
-    let k = begin .kept .1 .1 .1 .1 in (
+    let start-labels = c .before .before .before .before .before .before .before .before .before .before .start-labels in
+    let start-neighbours = c .before .before .before .before .before .before .before .before .start-neighbours in
+    let end-labels = c .before .before .before .before .before .before .end-labels in
+    let end-neighbours = c .before .before .before .before .end-neighbours in
+    let states = c .before .before .states in (
       refl,
-      rw (k .1 .1 .1 .1 .0)
+      rw (states .given)
           (record {
             few = omega arith;
             sound = entry .pre .0;
-            long = kept-long (entry .pre .1) (k .0) (k .1 .0) (k .1 .1 .0) (k .1 .1 .1 .0) (k .1 .1 .1 .1 .0);
+            long = kept-long (entry .pre .1) (start-labels .given) (start-neighbours .given) (end-labels .given) (end-neighbours .given) (states .given);
             way = begun-underway (entry .pre .0) (begin .ensures);
           }),
     )
@@ -128,18 +122,19 @@ turns-again c =
     let own = c .before .before .before .before .before .before .before .before .before .before .before .before .before .before .before .before .before .before .before .before .own in
     let other = c .before .before .before .before .before .before .before .before .before .before .before .before .before .before .before .before .before .other in
     let next-turn = c .before .before .before .before .before .before .before .before .before .before .next-turn in
-    let left = next-turn .last .1 .1 .1 .1 .1 .1 .1 .1 in
-    let k = next-turn .kept .1 .1 .1 .1 .1 .1 .1 .1 in
-    let e = k .1 .1 .1 .1 .0 in (
-      e ∙ turns .inv .0,
+    let start-labels2 = c .before .before .before .before .before .before .before .before .before .start-labels2 in
+    let start-neighbours2 = c .before .before .before .before .before .before .before .start-neighbours2 in
+    let end-labels2 = c .before .before .before .before .before .end-labels2 in
+    let end-neighbours2 = c .before .before .before .end-neighbours2 in
+    let states2 = c .before .states2 in (
+      states2 .given ∙ turns .inv .0,
       going-on {q = asked entry (length (turns .states))} {i = turns .turns}
           {sl = turns .start-labels} {sn = turns .start-neighbours} {el = turns .end-labels} {en = turns .end-neighbours}
           {states = turns .states} {p = turns .p}
           (turns .inv .1)
-          (asked entry (length (left .1 .1 .1 .1 .0)))
-          (left .0) (left .1 .0) (left .1 .1 .0) (left .1 .1 .1 .0) (left .1 .1 .1 .1 .0)
-          (ap (asked entry) (sym e)) (own .given .1) (other .given .1)
-          (k .0) (k .1 .0) (k .1 .1 .0) (k .1 .1 .1 .0) e
+          _ _ _ _ _ _
+          (ap (asked entry) (sym (states2 .given))) (own .given .1) (other .given .1)
+          (start-labels2 .given) (start-neighbours2 .given) (end-labels2 .given) (end-neighbours2 .given) (states2 .given)
           (next-turn .ensures .0) (next-turn .ensures .1),
     )
 
@@ -153,8 +148,8 @@ as-lent : (c : tie.At-turns Inv-turns μ-turns) →
     × (length (c .turns .states) ≡ length (entry .args .states .now))
 as-lent c =
     let entry = c .before .before .before .before .before .before .before .before .before .before .before .before .before .before .before .before .before .before .before .before .before .before .before .before .before .before .before in
-    let begin = c .before .before .before .before .before .before .before .before .before .before .before .before .begin in
-    let states-long = c .turns .inv .0 ∙ begin .kept .1 .1 .1 .1 .1 .1 .1 .1 .0 in
+    let states = c .before .before .before .states in
+    let states-long = c .turns .inv .0 ∙ states .given in
     let long = c .turns .inv .1 .long in
     let lent = entry .pre .1 in (
       long .labels-long ∙ states-long ∙ sym (lent .labels-long),

@@ -32,30 +32,25 @@ side-turn-requires c κs =
     )
 
 same-length : tie.Need-same-length
-same-length c =
-    let side-turn = c .before .before .before .before .before .before .side-turn in
-    side-turn .kept .1 .1 .1 .1 .1 .0
+same-length c = search needs
 
 same-length-2 : tie.Need-same-length-2
-same-length-2 c =
-    let side-turn = c .before .before .before .before .before .before .side-turn in
-    side-turn .kept .1 .1 .1 .1 .1 .1 .0
+same-length-2 c = search needs
 
 same-length-3 : tie.Need-same-length-3
 same-length-3 c = refl
 
 same-length-4 : tie.Need-same-length-4
-same-length-4 c =
-    let side-turn = c .before .before .before .before .before .before .side-turn in
-    side-turn .kept .1 .1 .1 .1 .1 .1 .1 .1 .0
+same-length-4 c = search needs
 
 returns : tie.Need-returns
 returns c =
     let entry = c .before .before .before .before .before .before .before .before .before .before .before .before .before .before .before .before .before .before .before .before .before .before in
     let if1 = c .before .before .before .before .before .before .before .before .before .before .before .if1 in
     let side-turn = c .before .before .before .before .before .before .side-turn in
+    let states = c .before .states in
     let t = entry .pre .1 .1 in
-    let m = side-turn-is _ start _ _ _ _ _ _ _ _ _ _ _ _ (entry .pre .0 .sized .heads-long) (side-turn .kept .1 .1 .1 .1 .1 .1 .1 .1 .0) (t .start-takes) (rw (entry .pre .1 .0 .labels-long) at (side-turn .ensures .0)) (side-turn .ensures .1) in
+    let m = side-turn-is _ start _ _ _ _ _ _ _ _ _ _ _ _ (entry .pre .0 .sized .heads-long) (states .given) (t .start-takes) (rw (entry .pre .1 .0 .labels-long) at (side-turn .ensures .0)) (side-turn .ensures .1) in
     (turn-named _ (start-named _ _ (if1 .taken)) m, m .known)
 
 swapped-requires : tie.Need-swapped-requires
@@ -83,19 +78,13 @@ same-length-5 : tie.Need-same-length-5
 same-length-5 c = refl
 
 same-length-6 : tie.Need-same-length-6
-same-length-6 c =
-    let side-turn2 = c .before .before .before .before .before .before .before .side-turn2 in
-    side-turn2 .kept .1 .1 .1 .1 .1 .0
+same-length-6 c = search needs
 
 same-length-7 : tie.Need-same-length-7
-same-length-7 c =
-    let side-turn2 = c .before .before .before .before .before .before .before .side-turn2 in
-    side-turn2 .kept .1 .1 .1 .1 .1 .1 .0
+same-length-7 c = search needs
 
 same-length-8 : tie.Need-same-length-8
-same-length-8 c =
-    let side-turn2 = c .before .before .before .before .before .before .before .side-turn2 in
-    side-turn2 .kept .1 .1 .1 .1 .1 .1 .1 .1 .0
+same-length-8 c = search needs
 
 returns-2 : tie.Need-returns-2
 returns-2 c =
@@ -103,9 +92,10 @@ returns-2 c =
     let if1 = c .before .before .before .before .before .before .before .before .before .before .before .before .before .if1 in
     let swapped = c .before .before .before .before .before .before .before .before .before .before .before .before .swapped in
     let side-turn2 = c .before .before .before .before .before .before .before .side-turn2 in
+    let states2 = c .before .before .states2 in
     let t = entry .pre .1 .1 in
     let e = swapped .ensures in
-    let m = side-turn-is _ end _ _ _ _ _ _ _ _ (swappedOf (entry .args .p)) _ _ _ (entry .pre .0 .sized .heads-long) (side-turn2 .kept .1 .1 .1 .1 .1 .1 .1 .1 .0) (t .end-takes) (rw (e, entry .pre .1 .0 .theirs-long) at (side-turn2 .ensures .0)) (rw e at (side-turn2 .ensures .1)) in
+    let m = side-turn-is _ end _ _ _ _ _ _ _ _ (swappedOf (entry .args .p)) _ _ _ (entry .pre .0 .sized .heads-long) (states2 .given) (t .end-takes) (rw (e, entry .pre .1 .0 .theirs-long) at (side-turn2 .ensures .0)) (rw e at (side-turn2 .ensures .1)) in
     rw (c .swapped2 .ensures) (turn-named _ (end-named _ _ (if1 .left)) m, known-swapped (m .known))
 
 pub next-turn-spec : {M : Type 1} → statement M
