@@ -15,19 +15,29 @@ count-states-requires c κs =
     omega (arith, entry .pre .0 .sized .few-nodes)
 
 same-length : tie.Need-same-length
-same-length c = search needs
+same-length c =
+    let start-labels = c .before .before .before .before .before .before .before .before .before .before .before .before .start-labels in
+    start-labels .given
 
 same-length-2 : tie.Need-same-length-2
-same-length-2 c = search needs
+same-length-2 c =
+    let start-neighbours = c .before .before .before .before .before .before .before .before .before .before .start-neighbours in
+    start-neighbours .given
 
 same-length-3 : tie.Need-same-length-3
-same-length-3 c = search needs
+same-length-3 c =
+    let end-labels = c .before .before .before .before .before .before .before .before .end-labels in
+    end-labels .given
 
 same-length-4 : tie.Need-same-length-4
-same-length-4 c = search needs
+same-length-4 c =
+    let end-neighbours = c .before .before .before .before .before .before .end-neighbours in
+    end-neighbours .given
 
 same-length-5 : tie.Need-same-length-5
-same-length-5 c = search needs
+same-length-5 c =
+    let states = c .before .before .before .before .states in
+    states .given
 
 returns : tie.Need-returns
 returns c =
@@ -50,22 +60,32 @@ write-path-requires c κs =
     path-room (entry .pre .0) (find .ensures) (if1 .left) (entry .pre .1 .1)
 
 same-length-6 : tie.Need-same-length-6
-same-length-6 c = search needs
+same-length-6 c =
+    let start-labels = c .before .before .before .before .before .before .before .before .before .before .before .before .before .before .before .before .before .before .start-labels in
+    start-labels .given
 
 same-length-7 : tie.Need-same-length-7
-same-length-7 c = search needs
+same-length-7 c =
+    let start-neighbours = c .before .before .before .before .before .before .before .before .before .before .before .before .before .before .before .before .start-neighbours in
+    start-neighbours .given
 
 same-length-8 : tie.Need-same-length-8
-same-length-8 c = search needs
+same-length-8 c =
+    let end-labels = c .before .before .before .before .before .before .before .before .before .before .before .before .before .before .end-labels in
+    end-labels .given
 
 same-length-9 : tie.Need-same-length-9
-same-length-9 c = search needs
+same-length-9 c =
+    let end-neighbours = c .before .before .before .before .before .before .before .before .before .before .before .before .end-neighbours in
+    end-neighbours .given
 
 same-length-10 : tie.Need-same-length-10
-same-length-10 c = search needs
+same-length-10 c =
+    let states = c .before .before .before .before .before .before .before .before .before .before .states in
+    states .given
 
 same-length-11 : tie.Need-same-length-11
-same-length-11 c = search needs
+same-length-11 c = c .before .path .given
 
 returns-2 : tie.Need-returns-2
 returns-2 c =

@@ -51,19 +51,29 @@ cast-t39 c =
     wide-fits {z = potentialAt (entry .args .backward .now) (entry .args .end)} (record { sfits = c .t38 .given })
 
 same-length : tie.Need-same-length
-same-length c = search needs
+same-length c =
+    let start-labels = c .before .before .before .before .before .before .before .before .before .before .before .before .before .before .before .before .before .before .before .before .before .before .before .start-labels in
+    start-labels .given
 
 same-length-2 : tie.Need-same-length-2
-same-length-2 c = search needs
+same-length-2 c =
+    let start-neighbours = c .before .before .before .before .before .before .before .before .before .before .before .before .before .before .before .before .before .before .before .start-neighbours in
+    start-neighbours .given
 
 same-length-3 : tie.Need-same-length-3
-same-length-3 c = search needs
+same-length-3 c =
+    let end-labels = c .before .before .before .before .before .before .before .before .before .before .before .before .before .before .before .end-labels in
+    end-labels .given
 
 same-length-4 : tie.Need-same-length-4
-same-length-4 c = search needs
+same-length-4 c =
+    let end-neighbours = c .before .before .before .before .before .before .before .before .before .before .before .end-neighbours in
+    end-neighbours .given
 
 same-length-5 : tie.Need-same-length-5
-same-length-5 c = search needs
+same-length-5 c =
+    let states = c .before .before .before .before .before .before .before .states in
+    states .given
 
 returns : tie.Need-returns
 returns c =

@@ -42,19 +42,27 @@ begin-requires c κs =
     )
 
 same-length : tie.Need-same-length Inv-turns μ-turns
-same-length c = search needs
+same-length c =
+    let start-labels = c .before .before .before .before .before .before .before .before .before .before .start-labels in
+    start-labels .given
 
 same-length-2 : tie.Need-same-length-2 Inv-turns μ-turns
-same-length-2 c = search needs
+same-length-2 c =
+    let start-neighbours = c .before .before .before .before .before .before .before .before .start-neighbours in
+    start-neighbours .given
 
 same-length-3 : tie.Need-same-length-3 Inv-turns μ-turns
-same-length-3 c = search needs
+same-length-3 c =
+    let end-labels = c .before .before .before .before .before .before .end-labels in
+    end-labels .given
 
 same-length-4 : tie.Need-same-length-4 Inv-turns μ-turns
-same-length-4 c = search needs
+same-length-4 c =
+    let end-neighbours = c .before .before .before .before .end-neighbours in
+    end-neighbours .given
 
 same-length-5 : tie.Need-same-length-5 Inv-turns μ-turns
-same-length-5 c = search needs
+same-length-5 c = c .before .before .states .given
 
 returns : tie.Need-returns Inv-turns μ-turns
 returns c =
