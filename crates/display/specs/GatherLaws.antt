@@ -1,6 +1,6 @@
 -- The display's answer gathered byte by byte: what is written so far and what is still to come make up the answer, and it fits.
 -- Where a refusal has ended the file nothing is still to come, so the bytes that are left need not be looked at. Assumes nothing.
-use mathlib.Core.Path.{_≡_, refl, sym, subst, _∙_}
+use mathlib.Core.Path.{_≡_, sym, subst, _∙_}
 use mathlib.Core.Bool.{true, false}
 use mathlib.Core.List.{List, [], _++_, append-nil}
 use Prim.Native.Nat.{ℕ, suc, _+_, _-_, _≤_, _<_}
@@ -14,17 +14,8 @@ use Rattle.district.specs.declared.Reader.{Reader}
 use Rattle.district.specs.declared.Taken.{Taken}
 use Rattle.district.specs.File.{takeByte, endOfInput, displayAnswer}
 use Rattle.district.specs.Reader.{Lists, fileOf, Roomy, Kept, Stepped, startReader, mostBytes, refusalBytes}
-use Rattle.district.specs.ReaderLaws.{start-file, start-kept, end-of-ended}
+use Rattle.district.specs.ReaderLaws.{start-file, start-kept, end-of-ended, AsLong, as-long-same, as-long-then}
 use Rattle.district.specs.FileLaws.{restOf, rest-whole, rest-none, rest-byte, rest-ended, display-short}
-
--- the lists that are lent are as long as they were
-pub record AsLong (l after : Lists) : Type 0 where
-  pub line : length (after .line) ≡ length (l .line)
-  pub tails : length (after .tails) ≡ length (l .tails)
-  pub heads : length (after .heads) ≡ length (l .heads)
-  pub weights : length (after .weights) ≡ length (l .weights)
-  pub forward : length (after .forward) ≡ length (l .forward)
-  pub backward : length (after .backward) ≡ length (l .backward)
 
 -- i bytes of the file are read, and `at` bytes of its answer stand at the front of the text
 pub record Gathering (file old : List ℕ) (lent : Lists) (r : Reader) (l : Lists) (text : List ℕ) (at i : ℕ) : Type 0 where
@@ -44,7 +35,7 @@ gather-start file text r l e h room =
     (record {
       within = omega arith;
       kept = start-kept true 1 l h;
-      as-long = record { line = refl; tails = refl; heads = refl; weights = refl; forward = refl; backward = refl };
+      as-long = as-long-same l;
       underway = rw (start-file true 1 l, rest-whole true 1 file) (underway-start (displayAnswer file) text (omega (arith, display-bytes file)));
     })
 
@@ -80,15 +71,7 @@ module _ (file old : List ℕ) (lent : Lists) (r : Reader) (l : Lists) (text : L
         record {
           within = omega arith;
           kept = s .kept;
-          as-long =
-              record {
-                line = long .line ∙ g .as-long .line;
-                tails = long .tails ∙ g .as-long .tails;
-                heads = long .heads ∙ g .as-long .heads;
-                weights = long .weights ∙ g .as-long .weights;
-                forward = long .forward ∙ g .as-long .forward;
-                backward = long .backward ∙ g .as-long .backward;
-              };
+          as-long = as-long-then (g .as-long) long;
           underway = rw (s .file-is) (part-more file old text at _ _ ys (t .written) underway-here (s .room-is));
         }
 

@@ -1,6 +1,6 @@
 -- Laws of readers and steps: how a reader begins, what a step that changes no list has to show, and what a reader's counts say
 -- of the file that it stands for. Assumes nothing.
-use mathlib.Core.Path.{_≡_, refl, subst}
+use mathlib.Core.Path.{_≡_, refl, subst, _∙_}
 use mathlib.Core.Bool.{Bool, true, false}
 use mathlib.Core.List.{List, []}
 use Prim.Native.Nat.{ℕ, zero, suc, _≤_, _<_}
@@ -188,3 +188,27 @@ module _ (r : Reader) (l : Lists) where
   pub end-of-whole : Kept r l → r .going ≡ true → r .held ≡ 0 → owesBy r ≡ false → [] ≡ endOfInput (fileOf r l)
   unfolding endOfInput fileOf
   end-of-whole k e h owes = rw (count-held r l k, eq-eqb _ _ h, owing-by r l k, owes) (rw e)
+
+-- ---- lengths
+-- lists that are as long as they were, which steps one after the other keep
+pub record AsLong (l after : Lists) : Type 0 where
+  pub line : length (after .line) ≡ length (l .line)
+  pub tails : length (after .tails) ≡ length (l .tails)
+  pub heads : length (after .heads) ≡ length (l .heads)
+  pub weights : length (after .weights) ≡ length (l .weights)
+  pub forward : length (after .forward) ≡ length (l .forward)
+  pub backward : length (after .backward) ≡ length (l .backward)
+
+pub as-long-same : (l : Lists) → AsLong l l
+as-long-same l = record { line = refl; tails = refl; heads = refl; weights = refl; forward = refl; backward = refl }
+
+pub as-long-then : {l m n : Lists} → AsLong l m → AsLong m n → AsLong l n
+as-long-then a b =
+    record {
+      line = b .line ∙ a .line;
+      tails = b .tails ∙ a .tails;
+      heads = b .heads ∙ a .heads;
+      weights = b .weights ∙ a .weights;
+      forward = b .forward ∙ a .forward;
+      backward = b .backward ∙ a .backward;
+    }

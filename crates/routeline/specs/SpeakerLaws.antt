@@ -220,19 +220,6 @@ module _ (s : Speaker) (room : List ℕ) where
       }
 
 -- ---- bytes are looked at
--- lists that are as long as they were
-pub record SameLengths (l after : Lists) (old room : List ℕ) : Type 0 where
-  pub line : length (after .line) ≡ length (l .line)
-  pub tails : length (after .tails) ≡ length (l .tails)
-  pub heads : length (after .heads) ≡ length (l .heads)
-  pub weights : length (after .weights) ≡ length (l .weights)
-  pub forward : length (after .forward) ≡ length (l .forward)
-  pub backward : length (after .backward) ≡ length (l .backward)
-  pub room-is : length room ≡ length old
-
-pub same-lengths : (l : Lists) (room : List ℕ) → SameLengths l l room room
-same-lengths l room = record { line = refl; tails = refl; heads = refl; weights = refl; forward = refl; backward = refl; room-is = refl }
-
 -- looking on from here leads where looking on from the beginning does
 pub record LookUnderway (t : Talk) (s : Speaker) (l : Lists) (chunk room : List ℕ) : Type 0 where
   pub sits : Sits s l chunk room

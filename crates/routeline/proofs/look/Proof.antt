@@ -2,18 +2,21 @@
 -- beginning does; and no list has changed its length. Each byte keeps it, and where no byte is looked at, looking on has ended.
 -- The measure is what is left of the bytes. Assumes nothing.
 use Prim.Native.Nat.{_-_}
-use mathlib.Core.Path.{sym, _∙_}
+use mathlib.Core.Path.{_≡_, refl, sym, _∙_}
 use native.Mathlib.Omega.{arith}
+use lib.ListN.{length}
 use Rattle.district.specs.Reader.{lists}
 use Rattle.routeline.specs.Speaker.{talkOf, speakerAt}
-use Rattle.routeline.specs.SpeakerLaws.{SameLengths, same-lengths, LookUnderway, look-start, looks-on-more, look-more, look-end}
+use Rattle.district.specs.ReaderLaws.{AsLong, as-long-same}
+use Rattle.routeline.specs.SpeakerLaws.{LookUnderway, look-start, looks-on-more, look-more, look-end}
 use Rattle.routeline.proofs.look.Statement.{statement}
 use Rattle.routeline.proofs.look.Tie as tie
 
 abbrev Inv-loop : tie.InvT-loop
 Inv-loop speaker chunk line₀ tails₀ heads₀ weights₀ forward₀ backward₀ room₀ reader₀ from₀ got done₀ written₀ line tails heads weights forward backward room reader from done written =
     LookUnderway (talkOf speaker (lists line₀ tails₀ heads₀ weights₀ forward₀ backward₀) chunk room₀) (speakerAt reader from got done written (speaker .stage)) (lists line tails heads weights forward backward) chunk room
-    × SameLengths (lists line₀ tails₀ heads₀ weights₀ forward₀ backward₀) (lists line tails heads weights forward backward) room₀ room
+    × AsLong (lists line₀ tails₀ heads₀ weights₀ forward₀ backward₀) (lists line tails heads weights forward backward)
+    × (length room ≡ length room₀)
 
 abbrev μ-loop : tie.MeasureT-loop
 μ-loop speaker chunk line₀ tails₀ heads₀ weights₀ forward₀ backward₀ room₀ reader₀ from₀ got done₀ written₀ line tails heads weights forward backward room reader from done written =
@@ -22,7 +25,7 @@ abbrev μ-loop : tie.MeasureT-loop
 loop-holds : tie.Need-loop-holds Inv-loop μ-loop
 loop-holds c =
     let entry = c .before .before .before .before .before .before .before in
-    (look-start _ _ _ _ (entry .pre), same-lengths _ _)
+    (look-start _ _ _ _ (entry .pre), as-long-same _, refl)
 
 looks-on-requires : tie.Need-looks-on-requires Inv-loop μ-loop
 looks-on-requires c κs = tt
@@ -61,9 +64,18 @@ loop-again c =
     let loop = c .before .before .before .before .before .before .before .before .before .before .before .before .before .before .before .before .before .before .before .before .before .before .before .before .loop in
     let looks-on = c .before .before .before .before .before .before .before .before .before .before .before .before .before .before .before .before .before .before .before .before .before .before .before .looks-on in
     let test = c .before .before .before .before .before .before .before .before .before .before .before .before .before .before .before .before .before .before .before .before .before .before .if1 in
-    let step = c .before .before .before .before .before .before .before .before .before .before .before .before .before .take-byte in (
+    let step = c .before .before .before .before .before .before .before .before .before .before .before .before .before .take-byte in
+    let lengths = loop .inv .1 in (
       look-more _ _ _ _ _ (loop .inv .0) (sym (looks-on .ensures) ∙ test .taken) _ _ _ (step .ensures),
-      record { line = omega (arith, step .kept, loop .inv .1 .line); tails = omega (arith, step .kept, loop .inv .1 .tails); heads = omega (arith, step .kept, loop .inv .1 .heads); weights = omega (arith, step .kept, loop .inv .1 .weights); forward = omega (arith, step .kept, loop .inv .1 .forward); backward = omega (arith, step .kept, loop .inv .1 .backward); room-is = omega (arith, step .kept, loop .inv .1 .room-is) },
+      record {
+        line = omega (arith, step .kept, lengths .line);
+        tails = omega (arith, step .kept, lengths .tails);
+        heads = omega (arith, step .kept, lengths .heads);
+        weights = omega (arith, step .kept, lengths .weights);
+        forward = omega (arith, step .kept, lengths .forward);
+        backward = omega (arith, step .kept, lengths .backward);
+      },
+      omega (arith, step .kept, loop .inv .2),
     )
 
 same-length : tie.Need-same-length Inv-loop μ-loop
@@ -85,7 +97,7 @@ same-length-6 : tie.Need-same-length-6 Inv-loop μ-loop
 same-length-6 c = omega (arith, c .before .before .loop .inv .1 .backward)
 
 same-length-7 : tie.Need-same-length-7 Inv-loop μ-loop
-same-length-7 c = omega (arith, c .before .before .loop .inv .1 .room-is)
+same-length-7 c = omega (arith, c .before .before .loop .inv .2)
 
 returns : tie.Need-returns Inv-loop μ-loop
 returns c = look-end _ _ _ _ _ (c .before .before .loop .inv .0) (sym (c .before .looks-on .ensures) ∙ c .if1 .left)
