@@ -11,7 +11,7 @@ use Rattle.network.specs.Network.{isArc}
 use Rattle.network.specs.Potential.{keepsRule}
 use Rattle.network.specs.Query.{sideOfTurn}
 use Rattle.network.specs.Refusal.{lowest, badNodeCount, badArcLists, badPotentialLists, badStartOrEnd, badEntry, badPattern, badRoom, badArc, outOfRange, badPotential, breaksRule, listRows, tripRows, mapRows, firstRefusal, queryVerdict}
-use Rattle.nba.specs.Search.{beginningHalf, atBeginning, lower, leastBelow, candidate, ended, rejected, arcsBelow, arcsOf, withLabel, withMeeting, lookAt, lookAtEach, halfAfter, afterReach, rejecting, opening, turn, turnUnlessEnded, afterTurns, atOnce, endState}
+use Rattle.nba.specs.Search.{beginningHalf, atBeginning, lower, leastBelow, candidate, ended, rejected, arcsBelow, arcsOf, withLabel, withMeeting, lookAt, lookAtEach, halfAfter, afterReach, rejecting, opening, turn, turnUnlessEnded, afterTurns, atOnce, stateAt, endState}
 use Rattle.nba.specs.Result.{trail, turnedBefore, pathThrough, pathOf, countOf, figuresIn, answerAt, found, answerTo}
 use Rattle.frames.specs.Digits.{digitOf, valueOf, areDigits, numberFrom, numberAt, digitsOf, spelled}
 use Rattle.frames.specs.Signed.{signedOf}
@@ -319,5 +319,5 @@ answered c = record { reading = c .reading; given = c .given; answer = answerOf 
 -- ---- the proof, by computation
 -- every file is answered as expected
 pub files-answered : map answered cases ≡ cases
-unfolding answered answerFrom feed endOfInput takeByte brokenLine takeLine takeFrame takeQuery queryLines takePotentials takeArcs takeSize taken refused lineOf patternOf patternDigits frameOf ofKind queryOf potentialsOf arcOf sizeOf signedOf spelled digitsOf numberAt numberFrom areDigits valueOf digitOf answerTo found answerAt figuresIn countOf pathOf pathThrough turnedBefore trail endState atOnce afterTurns turnUnlessEnded turn opening rejecting afterReach halfAfter lookAtEach lookAt withMeeting withLabel arcsOf arcsBelow rejected ended candidate leastBelow lower atBeginning beginningHalf sideOfTurn isArc keepsRule queryVerdict firstRefusal mapRows tripRows listRows breaksRule badPotential outOfRange badArc badRoom badPattern badEntry badStartOrEnd badPotentialLists badArcLists badNodeCount lowest
+unfolding answered answerFrom feed endOfInput takeByte brokenLine takeLine takeFrame takeQuery queryLines takePotentials takeArcs takeSize taken refused lineOf patternOf patternDigits frameOf ofKind queryOf potentialsOf arcOf sizeOf signedOf spelled digitsOf numberAt numberFrom areDigits valueOf digitOf answerTo found answerAt figuresIn countOf pathOf pathThrough turnedBefore trail stateAt atOnce afterTurns turnUnlessEnded turn opening rejecting afterReach halfAfter lookAtEach lookAt withMeeting withLabel arcsOf arcsBelow rejected ended candidate leastBelow lower atBeginning beginningHalf sideOfTurn isArc keepsRule queryVerdict firstRefusal mapRows tripRows listRows breaksRule badPotential outOfRange badArc badRoom badPattern badEntry badStartOrEnd badPotentialLists badArcLists badNodeCount lowest
 files-answered = refl

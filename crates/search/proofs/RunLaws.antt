@@ -16,7 +16,7 @@ use Rattle.network.specs.Network.{Side, start, end, other, Network, network, ar
 use Rattle.network.specs.Potential.{potentialAt}
 use Rattle.network.specs.Query.{Query, potentials, source, sideOfTurn}
 use Rattle.nba.specs.State.{missing, noNode, State, half, undecided, openedBy}
-use Rattle.nba.specs.Search.{Chosen, none, node, isNone, leastBelow, candidate, rejected, arcsBelow, arcsOf, Reach, floorAfter, halfAfter, afterReach, reachOf, rejecting, ended, atBeginning, beginningHalf, atOnce, endState}
+use Rattle.nba.specs.Search.{Chosen, none, node, isNone, leastBelow, candidate, rejected, arcsBelow, arcsOf, Reach, floorAfter, halfAfter, afterReach, reachOf, rejecting, ended, atBeginning, beginningHalf, atOnce, stateAt, endState}
 use Rattle.nba.specs.Why.ByMark.{lookByMark, lookEachByMark, openingByMark, takesByMark, turnByMark, afterTurnsByMark}
 use Rattle.network.specs.Shift.{mag-add}
 use Rattle.network.specs.SoundLaws.{range-fine}
@@ -323,7 +323,7 @@ module _ {q : Query} (sound : Sound q) {sl sn el en states : List ℕ} {p : Prog
 
   -- start equal to end: it has ended at once
   pub ended-at-once : {s : ℕ} → s ≡ q .start → q .start ≡ q .end → remains sl sn el en states (record { length = 0; node = s }) ≡ remainsOf (endState q)
-  unfolding endState atOnce atBeginning
+  unfolding stateAt atOnce atBeginning
   ended-at-once e h =
       let f : standingOf start sl sn el en states p ≡ atBeginning q = b .at-first (q .network) (q .pattern) refl in
       rw (eq-eqb _ _ h, e) (ap (λ (t : Remains). record { start-labels = t .start-labels; start-neighbours = t .start-neighbours; end-labels = t .end-labels; end-neighbours = t .end-neighbours; states = t .states; best = 0; meeting = q .start }) (ap remainsOf f))
