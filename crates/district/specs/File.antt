@@ -8,6 +8,7 @@ use Prim.Native.Nat.{ℕ, _+_, _-_}
 use lib.Dec.{eqb, ltb, leb}
 use lib.IntN.{ℤ}
 use lib.ListN.{length}
+use Rattle.network.specs.declared.Cap.{Cap}
 use Rattle.network.specs.declared.Lent.{Lent}
 use Rattle.network.specs.declared.Cause.{Cause}
 use Rattle.network.specs.declared.Cause.the-variants.{NodeCount, ArcLists, UnsoundLine, MisplacedLine}
@@ -15,8 +16,8 @@ use Rattle.network.specs.declared.Answer.the-variants.{Refused}
 use Rattle.network.specs.Network.{network, mostNodes, mostArcs}
 use Rattle.network.specs.Refusal.{roomFor}
 use Rattle.network.specs.Query.{Query, query}
-use Rattle.nba.specs.Search.{endState}
-use Rattle.nba.specs.Result.{pathOf, answerTo}
+use Rattle.nba.specs.Search.{stateAt}
+use Rattle.nba.specs.Result.{pathOf, answerUnder, turnsGiven}
 use Rattle.frames.specs.declared.Frame.{Frame}
 use Rattle.frames.specs.declared.Frame.the-variants.{Size, Arc, TwoWay, Potentials, Query as QueryFrame, Unsound}
 use Rattle.frames.specs.Frame.{mostDigits, frameOf, patternOf}
@@ -88,7 +89,7 @@ wrongCause (Size n m) line = MisplacedLine line
 wrongCause (Arc t h w) line = MisplacedLine line
 wrongCause (TwoWay t h w) line = MisplacedLine line
 wrongCause (Potentials v h k) line = MisplacedLine line
-wrongCause (QueryFrame s e n) line = MisplacedLine line
+wrongCause (QueryFrame s e c n) line = MisplacedLine line
 
 abbrev pub wrong : File → Frame → FileStep
 wrong f g = refused f (wrongCause g (f .line))
@@ -116,7 +117,7 @@ takeSize f (Size n m) =
 takeSize f (Arc t h w) = wrong f (Arc t h w)
 takeSize f (TwoWay t h w) = wrong f (TwoWay t h w)
 takeSize f (Potentials v h k) = wrong f (Potentials v h k)
-takeSize f (QueryFrame s e n) = wrong f (QueryFrame s e n)
+takeSize f (QueryFrame s e c n) = wrong f (QueryFrame s e c n)
 takeSize f Unsound = wrong f Unsound
 
 -- ---- 02 and 05
@@ -135,7 +136,7 @@ addedArcs (Arc t h w) = givenArc t h w ∷ []
 addedArcs (TwoWay t h w) = givenArc t h w ∷ givenArc h t w ∷ []
 addedArcs (Size n m) = []
 addedArcs (Potentials v h k) = []
-addedArcs (QueryFrame s e n) = []
+addedArcs (QueryFrame s e c n) = []
 addedArcs Unsound = []
 
 abbrev pub withArcs : Told → List GivenArc → Told
@@ -178,17 +179,17 @@ takePotentials f (Potentials v h k) =
 takePotentials f (Size n m) = wrong f (Size n m)
 takePotentials f (Arc t h w) = wrong f (Arc t h w)
 takePotentials f (TwoWay t h w) = wrong f (TwoWay t h w)
-takePotentials f (QueryFrame s e n) = wrong f (QueryFrame s e n)
+takePotentials f (QueryFrame s e c n) = wrong f (QueryFrame s e c n)
 takePotentials f Unsound = wrong f Unsound
 
--- ---- 04
+-- ---- 04 and 07
 -- the lists that a query is lent have room for 2,048 entries each, so no query is refused for its room
 abbrev pub workRoom : Lent
 workRoom = roomFor mostNodes
 
--- the lines of a query's answer, which may be a refusal (4, 5, 7, 8 or 9)
-unfoldable pub queryLines : Query → List ℕ
-queryLines q = answerLines (answerTo q workRoom) (pathOf q (endState q))
+-- the lines of a query's answer, which may be a refusal (4, 5, 7, 8 or 9): with a cap or without
+unfoldable pub queryLines : Cap → Query → List ℕ
+queryLines c q = answerLines (answerUnder c q workRoom) (pathOf q (stateAt q (turnsGiven c q)))
 
 -- the query from s to e with a pattern, on what is told
 abbrev pub queryOn : Told → ℕ → ℕ → List ℕ → Query
@@ -209,9 +210,9 @@ withQuery t =
 
 -- where a query may stand: it is answered at once; a second one in the display's file is 11
 unfoldable pub takeQuery : File → Frame → FileStep
-takeQuery f (QueryFrame s e n) =
-    cond (f .single && f .told .asked) (wrong f (QueryFrame s e n))
-    (taken f (withQuery (f .told)) (queryLines (queryOn (f .told) s e (patternOf (f .held)))))
+takeQuery f (QueryFrame s e c n) =
+    cond (f .single && f .told .asked) (wrong f (QueryFrame s e c n))
+    (taken f (withQuery (f .told)) (queryLines c (queryOn (f .told) s e (patternOf (f .held)))))
 takeQuery f (Size n m) = wrong f (Size n m)
 takeQuery f (Arc t h w) = wrong f (Arc t h w)
 takeQuery f (TwoWay t h w) = wrong f (TwoWay t h w)

@@ -64,13 +64,13 @@ abbrev pub potentialsRead : Told → Bool
 potentialsRead t = arcsRead t && not (potentialsOwed t)
 
 -- whether a frame may stand where this is told: a 01 where it is owed; a 02 where an arc is owed, and a 05 where two are; a 03
--- after the arcs, for the next node; a 04 after the potentials, in the display's file the first one only
+-- after the arcs, for the next node; a 04 or a 07 after the potentials, in the display's file the first one only
 unfoldable pub mayStand : Bool → Told → Frame → Bool
 mayStand single t (Size n m) = sizeOwed t
 mayStand single t (Arc a b w) = sizeRead t && leb 1 (owedArcs t)
 mayStand single t (TwoWay a b w) = sizeRead t && leb 2 (owedArcs t)
 mayStand single t (Potentials v h k) = arcsRead t && (potentialsOwed t && eqb v (length (t .forward)))
-mayStand single t (QueryFrame s e n) = potentialsRead t && not (single && t .asked)
+mayStand single t (QueryFrame s e c n) = potentialsRead t && not (single && t .asked)
 mayStand single t Unsound = false
 
 -- ---- what each line is refused for
@@ -87,7 +87,7 @@ sizeVerdict (Size n m) = firstRefusal (given (badNodes n) NodeCount ∷ given (b
 sizeVerdict (Arc a b w) = Accepted
 sizeVerdict (TwoWay a b w) = Accepted
 sizeVerdict (Potentials v h k) = Accepted
-sizeVerdict (QueryFrame s e n) = Accepted
+sizeVerdict (QueryFrame s e c n) = Accepted
 sizeVerdict Unsound = Accepted
 
 -- the frame of line n, where this is told: line 4,294,967,295 is 11, sound or not; then no sound frame is 10, and one that may
@@ -109,12 +109,12 @@ toldWith t (Size n m) = withSize t n m
 toldWith t (Arc a b w) = withArcs t (addedArcs (Arc a b w))
 toldWith t (TwoWay a b w) = withArcs t (addedArcs (TwoWay a b w))
 toldWith t (Potentials v h k) = withPotentials t h k
-toldWith t (QueryFrame s e n) = withQuery t
+toldWith t (QueryFrame s e c n) = withQuery t
 toldWith t Unsound = t
 
 -- what is printed for a frame that is taken: the answer of a query, whose pattern the line spells, and nothing for any other
 unfoldable pub printedFor : Told → List ℕ → Frame → List ℕ
-printedFor t line (QueryFrame s e n) = queryLines (queryOn t s e (patternOf line))
+printedFor t line (QueryFrame s e c n) = queryLines c (queryOn t s e (patternOf line))
 printedFor t line (Size n m) = []
 printedFor t line (Arc a b w) = []
 printedFor t line (TwoWay a b w) = []

@@ -11,16 +11,16 @@ use Rattle.frames.specs.declared.Frame.the-variants.{Size, Arc, TwoWay, Potenti
 use Rattle.frames.specs.AnswerLines.{lineFeed}
 use Rattle.district.specs.FileGiven.{lineCount, frameAfter, toldAfter, TakenAfter, ComesTo}
 
--- the frame is a sound 04
+-- the frame is a sound query, 04 or 07
 abbrev pub isQuery : Frame → Bool
-isQuery (QueryFrame s e n) = true
+isQuery (QueryFrame s e c n) = true
 isQuery (Size n m) = false
 isQuery (Arc a b w) = false
 isQuery (TwoWay a b w) = false
 isQuery (Potentials v h k) = false
 isQuery Unsound = false
 
--- the line after i line feeds asks again: it is a sound 04, and one of the lines before it was taken as a query
+-- the line after i line feeds asks again: it is a sound query, and one of the lines before it was taken as a query
 pub record AsksAgain (bytes : List ℕ) (i : ℕ) : Type 0 where
   pub there : i < lineCount bytes
   pub query : isQuery (frameAfter bytes i) ≡ true

@@ -5,7 +5,7 @@ use Prim.Native.Nat.{ℕ}
 use lib.ListN.{length, take, replicate}
 use Rattle.network.specs.Answer.{kindOf, valuesOf}
 use Rattle.network.specs.declared.Answer.{Answer}
-use Rattle.network.specs.declared.Answer.the-variants.{Route, NoRoute, Refused}
+use Rattle.network.specs.declared.Answer.the-variants.{Route, NoRoute, Refused, Provisional, Undecided}
 use Rattle.frames.specs.Digits.{digitsOf, spelled}
 
 -- the byte that ends a line
@@ -21,11 +21,14 @@ abbrev pub routeWidths : List ℕ
 routeWidths = 2 ∷ 8 ∷ 4 ∷ 4 ∷ 4 ∷ 4 ∷ 4 ∷ []
 
 -- the widths of an answer's fields, its kind's first.
--- 80 no route: turns, opened by start side, by end side, rejected, 4 each. FF refusal: number 2, place 8
+-- 80 no route: turns, opened by start side, by end side, rejected, 4 each. FF refusal: number 2, place 8.
+-- 84 provisional: length 8, excess 8. 85 undecided: turns 4
 abbrev pub widthsOf : Answer → List ℕ
 widthsOf (Route l n f) = routeWidths
 widthsOf (NoRoute f) = 2 ∷ 4 ∷ 4 ∷ 4 ∷ 4 ∷ []
 widthsOf (Refused c) = 2 ∷ 2 ∷ 8 ∷ []
+widthsOf (Provisional l x n f) = 2 ∷ 8 ∷ 8 ∷ []
+widthsOf (Undecided f) = 2 ∷ 4 ∷ []
 
 -- the line of an answer: its kind and its values
 abbrev pub answerLine : Answer → List ℕ
@@ -40,8 +43,10 @@ abbrev pub pathLine : List ℕ → List ℕ
 pathLine nodes = digitsOf 2 130 ++ nodesLine nodes
 
 -- the lines of an answer: a route's line and then its path's, which holds the first entries of the path list, as many as
--- the route has nodes, or all where the list has fewer; the one line of any other answer
+-- the route has nodes, or all where the list has fewer; a provisional's in the same way; the one line of any other answer
 abbrev pub answerLines : Answer → List ℕ → List ℕ
 answerLines (Route l n f) path = answerLine (Route l n f) ++ pathLine (take n path)
 answerLines (NoRoute f) path = answerLine (NoRoute f)
 answerLines (Refused c) path = answerLine (Refused c)
+answerLines (Provisional l x n f) path = answerLine (Provisional l x n f) ++ pathLine (take n path)
+answerLines (Undecided f) path = answerLine (Undecided f)

@@ -6,6 +6,8 @@ use mathlib.Core.List.{List, [], map}
 use Prim.Native.Nat.{ℕ, _+_}
 use lib.Dec.{eqb}
 use lib.ListN.{length, drop}
+use Rattle.network.specs.declared.Cap.{Cap}
+use Rattle.network.specs.declared.Cap.the-variants.{Uncapped, AtMost}
 use Rattle.frames.specs.Digits.{valueOf, areDigits, numberAt}
 use Rattle.frames.specs.Signed.{signedOf}
 use Rattle.frames.specs.declared.Frame.{Frame}
@@ -38,11 +40,17 @@ potentialsOf s =
 unfoldable pub queryOf : List ℕ → Frame
 queryOf s =
     soundIf (eqb (length s) (2 + 4 + 4 + 2 + numberAt s 10 2))
-    (Query (numberAt s 2 4) (numberAt s 6 4) (numberAt s 10 2))
+    (Query (numberAt s 2 4) (numberAt s 6 4) Uncapped (numberAt s 10 2))
 
--- the most digits that an input frame has: a query whose pattern is as long as two digits can say
+-- 07 capped query: start 4, end 4, cap 4, pattern length 2, then one digit an entry
+unfoldable pub cappedOf : List ℕ → Frame
+cappedOf s =
+    soundIf (eqb (length s) (2 + 4 + 4 + 4 + 2 + numberAt s 14 2))
+    (Query (numberAt s 2 4) (numberAt s 6 4) (AtMost (numberAt s 10 4)) (numberAt s 14 2))
+
+-- the most digits that an input frame has: a capped query whose pattern is as long as two digits can say
 abbrev pub mostDigits : ℕ
-mostDigits = 2 + 4 + 4 + 2 + 255
+mostDigits = 2 + 4 + 4 + 4 + 2 + 255
 
 -- the frame of a kind
 unfoldable pub ofKind : ℕ → List ℕ → Frame
@@ -51,25 +59,31 @@ ofKind kind s =
     (cond (eqb kind 2) (arcOf false s)
     (cond (eqb kind 3) (potentialsOf s)
     (cond (eqb kind 4) (queryOf s)
-    (soundIf (eqb kind 5) (arcOf true s)))))
+    (cond (eqb kind 5) (arcOf true s)
+    (soundIf (eqb kind 7) (cappedOf s))))))
 
 -- the frame that a line spells, the line taken without its line feed
 unfoldable pub frameOf : List ℕ → Frame
 frameOf s = soundIf (areDigits s) (ofKind (numberAt s 0 2) s)
 
--- the values of the digits that a line has after its first twelve
-unfoldable pub patternDigits : List ℕ → List ℕ
-patternDigits s = map valueOf (drop (2 + 4 + 4 + 2) s)
+-- the digits that a query's line has before its entries: 4 more where it has a cap
+abbrev pub digitsBefore : Cap → ℕ
+digitsBefore Uncapped = 2 + 4 + 4 + 2
+digitsBefore (AtMost cap) = 2 + 4 + 4 + 4 + 2
 
--- those digits where the line's frame is a query, and nothing where it is not
+-- the values of the digits that a line has from a place on
+unfoldable pub entriesFrom : ℕ → List ℕ → List ℕ
+entriesFrom at s = map valueOf (drop at s)
+
+-- the entries of a query's line, and nothing where the line's frame is no query
 abbrev pub entriesOf : Frame → List ℕ → List ℕ
-entriesOf (Query a b n) ds = ds
-entriesOf (Size n m) ds = []
-entriesOf (Arc t h w) ds = []
-entriesOf (TwoWay t h w) ds = []
-entriesOf (Potentials n h k) ds = []
-entriesOf Unsound ds = []
+entriesOf (Query a b c n) s = entriesFrom (digitsBefore c) s
+entriesOf (Size n m) s = []
+entriesOf (Arc t h w) s = []
+entriesOf (TwoWay t h w) s = []
+entriesOf (Potentials n h k) s = []
+entriesOf Unsound s = []
 
 -- the pattern that a line spells: one entry a digit
 unfoldable pub patternOf : List ℕ → List ℕ
-patternOf s = entriesOf (frameOf s) (patternDigits s)
+patternOf s = entriesOf (frameOf s) s

@@ -12,6 +12,7 @@ ghost use Rattle.frames.specs.Frame.{patternDigits, sizeOf, arcOf, poten
 ghost use Rattle.frames.specs.Room.{laid, Laid, Placed};
 ghost use Rattle.frames.specs.AnswerLines.{lineOf, routeWidths, nodesLine, pathLine, answerLine, answerLines};
 use network::Answer;
+use network::Cap;
 use network::Cause;
 use network::Figures;
 
@@ -73,14 +74,34 @@ const REFUSAL_WIDTHS: [usize; 3] = [2, 2, 8];
 
 const REFUSAL_BYTES: usize = 2 + 2 + 8 + 1;
 
-// What an input line says: one case for each kind, 01, 02, 05, 03 and 04, or no sound frame. A query holds the length
-// of its pattern; `pattern` hands out the entries.
+// What an input line says: one case for each kind, 01, 02, 05 and 03, one for the queries 04 and 07, or no sound frame. A query
+// holds its cap, which a 04 has not, and the length of its pattern; `pattern` hands out the entries.
 pub enum Frame {
-    Size { nodes: u16, arcs: u16 },
-    Arc { tail: u16, head: u16, weight: u32 },
-    TwoWay { tail: u16, head: u16, weight: u32 },
-    Potentials { node: u16, h: i32, k: i32 },
-    Query { start: u16, end: u16, entries: u8 },
+    Size {
+        nodes: u16,
+        arcs: u16,
+    },
+    Arc {
+        tail: u16,
+        head: u16,
+        weight: u32,
+    },
+    TwoWay {
+        tail: u16,
+        head: u16,
+        weight: u32,
+    },
+    Potentials {
+        node: u16,
+        h: i32,
+        k: i32,
+    },
+    Query {
+        start: u16,
+        end: u16,
+        cap: Cap,
+        entries: u8,
+    },
     Unsound,
 }
 

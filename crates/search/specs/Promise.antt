@@ -1,4 +1,5 @@
--- What a query leaves (docs/RULES.md, "The end of a search"): its answer, and every entry of every lent list. Assumes nothing.
+-- What a query leaves (docs/RULES.md, "The end of a search" and "Capped queries"): its answer, and every entry of every lent list.
+-- Assumes nothing.
 use mathlib.Core.Bool.{cond}
 use mathlib.Core.List.{List, []}
 use Prim.Native.Nat.{ℕ}
@@ -11,8 +12,8 @@ use Rattle.network.specs.declared.Verdict.the-variants.{Accepted, Refused as Re
 use Rattle.network.specs.Query.{Query}
 use Rattle.network.specs.Refusal.{queryVerdict}
 use Rattle.nba.specs.State.{State, present}
-use Rattle.nba.specs.Search.{endState}
-use Rattle.nba.specs.Result.{pathOf, found}
+use Rattle.nba.specs.Search.{stateAt}
+use Rattle.nba.specs.Result.{pathOf, found, foundAt}
 use Rattle.search.specs.Tables.{atFront}
 
 -- the six lists that a caller lends
@@ -45,15 +46,15 @@ lengths l = record {
   path = length (l .path);
 }
 
--- the path that is shown: none where there is no route
+-- the path that is shown: none where there is no best length, so none with "no route" and none with "undecided"
 unfoldable pub shownPath : Query → State → List ℕ
 shownPath q st = cond (present (st .best)) (pathOf q st) []
 
--- the lists after a search: the first entries of the work lists, one a node, hold the end state, and the path list holds the
--- path from its first entry; all entries beyond keep their old values
-unfoldable pub listsAfter : Query → LentLists → LentLists
-listsAfter q l =
-    let st = endState q in
+-- the lists after a search at a cap: the first entries of the work lists, one a node, hold the state after the turns made, and the
+-- path list holds the path from its first entry; all entries beyond keep their old values
+unfoldable pub listsAt : Query → ℕ → LentLists → LentLists
+listsAt q cap l =
+    let st = stateAt q cap in
     record {
       start-labels = atFront (st .start-half .labels) (l .start-labels);
       start-neighbours = atFront (st .start-half .neighbours) (l .start-neighbours);
@@ -63,6 +64,10 @@ listsAfter q l =
       path = atFront (shownPath q st) (l .path);
     }
 
+-- the lists after a search without a cap, which hold the end state
+abbrev pub listsAfter : Query → LentLists → LentLists
+listsAfter q l = listsAt q (q .network .nodes) l
+
 -- an answer, and the lists as they are then
 pub record Left : Type 0 where
   pub answer : Answer
@@ -71,15 +76,21 @@ pub record Left : Type 0 where
 abbrev pub left : Answer → LentLists → Left
 left a l = record { answer = a; lists = l }
 
--- what the search of an accepted query leaves
+-- what the search of an accepted query leaves, without a cap and at a cap
 abbrev pub searchLeaves : Query → LentLists → Left
 searchLeaves q l = left (found q) (listsAfter q l)
 
--- a refusal leaves all lent lists untouched; an accepted query is searched
-abbrev pub verdictLeaves : Verdict → Query → LentLists → Left
-verdictLeaves (Refusal c) q l = left (Refused c) l
-verdictLeaves Accepted q l = searchLeaves q l
+abbrev pub searchLeavesAt : Query → ℕ → LentLists → Left
+searchLeavesAt q cap l = left (foundAt q cap) (listsAt q cap l)
 
--- what a query leaves
+-- a refusal leaves all lent lists untouched; an accepted query leaves what its search leaves
+abbrev pub verdictLeaves : Verdict → LentLists → Left → Left
+verdictLeaves (Refusal c) l searched = left (Refused c) l
+verdictLeaves Accepted l searched = searched
+
+-- what a query leaves, without a cap and at a cap
 unfoldable pub queried : Query → LentLists → Left
-queried q l = verdictLeaves (queryVerdict q (lengths l)) q l
+queried q l = verdictLeaves (queryVerdict q (lengths l)) l (searchLeaves q l)
+
+unfoldable pub queriedAt : Query → ℕ → LentLists → Left
+queriedAt q cap l = verdictLeaves (queryVerdict q (lengths l)) l (searchLeavesAt q cap l)
