@@ -39,5 +39,7 @@ pub mod ByMarkLaws
 pub mod EndLaws
 pub mod Fits
 pub mod Theorems
+pub mod ExcessLaws
+pub mod Capped
 pub mod Accepted
 pub mod Longest
