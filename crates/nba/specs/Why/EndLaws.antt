@@ -172,7 +172,7 @@ module _ {q : Query} (sound : Sound q) where
       (λ l. absurd (true≢false (ap (ended q) (stays-ended-by-mark q (e .turns) i (e .over) l) ∙ e .over) h))
 
   -- a bound for walks below the missing mark is one for all
-  pub all-walks : {b : ℕ} → ((l : ℕ) → l < missing → WalkOfLength q l → b ≤ l) → (l : ℕ) → WalkOfLength q l → b ≤ l
+  all-walks : {b : ℕ} → ((l : ℕ) → l < missing → WalkOfLength q l → b ≤ l) → (l : ℕ) → WalkOfLength q l → b ≤ l
   all-walks f l p =
       let r = walk-beside sound (sound .source-in start) p in
       omega (arith, r .no-longer, f (r .total) (omega (arith, r .small)) (r .walk))

@@ -1,6 +1,6 @@
 -- The excess in natural numbers: the best length less the larger of the two floors, each less its side's potential of its target,
 -- where a difference below 0 counts as 0. Assumes nothing.
-use mathlib.Core.Path.{_≡_, refl, sym, ap, _∙_}
+use mathlib.Core.Path.{_≡_, refl, ap, _∙_}
 use Prim.Native.Nat.{ℕ, zero, suc, _+_, _-_, _≤_, max}
 use native.Mathlib.Omega.{arith}
 use lib.Dec.{leb}

@@ -7,11 +7,10 @@ use mathlib.Core.List.{List}
 use Prim.Native.Nat.{ℕ, zero, suc, _+_, _≤_, _<_}
 use native.Mathlib.Omega.{arith}
 use native.Mathlib.Nat.{le-refl}
-use lib.Dec.{eqb}
 use lib.IntN.{pos}
 use lib.ListN.{length, getD, List·getD-eq-default}
 use lib.Signed.{leZ}
-use borrow.Author.Tests.{ltb-true, le-leb, eqb-true, eqb-false}
+use borrow.Author.Tests.{ltb-true, le-leb}
 use Rattle.network.specs.declared.Figures.{Figures}
 use Rattle.network.specs.declared.Answer.the-variants.{Route}
 use Rattle.network.specs.Network.{Side, start, end}
@@ -20,7 +19,7 @@ use Rattle.network.specs.WalkLaws.{walk-is, walk-turned}
 use Rattle.network.specs.Potential.{potentialAt}
 use Rattle.network.specs.Query.{Query, potentials, source}
 use Rattle.network.specs.Given.{Sound}
-use Rattle.network.specs.CaseSplit.{by-eq, by-lt, by-bool}
+use Rattle.network.specs.CaseSplit.{by-eq, by-lt}
 use Rattle.network.specs.Shift.{up, low-mag, up-within}
 use Rattle.network.specs.PotentialLaws.{shift, shifted}
 use Rattle.nba.specs.State.{missing, present, State, half, labelOf, neighbourOf, stateOf, openedBy}
