@@ -246,7 +246,7 @@ fn query_frame(table: &[u8; 256], line: &[u8]) -> Frame
     }
 }
 
-// A line of kind 07: as 04, with a cap before the pattern's length.
+// A line of kind 07 (docs/RULES.md, "Capped queries"): as 04, with a cap before the pattern's length.
 fn capped_frame(table: &[u8; 256], line: &[u8]) -> Frame
     requires { ⌜ Readable (now table) (now line) ⌝ }
     ensures { λ r. ⌜ r ≡ cappedOf (now (line .entry)) ⌝ }
