@@ -194,7 +194,7 @@ module _ (q : Query) (before after : LentLists) (r : Answer) (e : left r after �
       let read = route-read q (endState q) l n f (found-route h) in
       path-shown q (q .network .nodes) before (searched-leaves (route-accepted h) .1) (read .here) (read .nodes-are)
 
-  pub demand-2-kept : Demand2 q after r
+  demand-2-kept : Demand2 q after r
   demand-2-kept =
       record {
         real = λ h. rw (route-shown h) (demand-2 (accepted-sound q (lengths before) (route-accepted h)) .real (found-route h));
@@ -226,7 +226,7 @@ module _ (q : Query) (before after : LentLists) (r : Answer) (e : left r after �
       let there : queried (withPattern p q) before .answer ≡ found (withPattern p q) = accepted-answer (withPattern p q) before v′ in
       rw (searched-leaves v .0, there) (demand-3-same p (sound v) (accepted-sound (withPattern p q) (lengths before) v′))
 
-  pub demand-3-kept : Demand3 q before after r
+  demand-3-kept : Demand3 q before after r
   demand-3-kept = record {
     turns = λ h d. let v = figures-accepted h in rw (figures-found q (rw (searched-leaves v .0) at h)) (demand-3-turns (sound v) d);
     reached = λ h s u i o. let v = figures-accepted h in rw (label-shown q (q .network .nodes) before (at-end v) s u i) (demand-3-opened-at (sound v) (q .network .nodes) .reached s u (sym (state-shown q (q .network .nodes) before (at-end v) u i) ∙ o));
