@@ -32,6 +32,11 @@ pub capped-query-one-answer : (q : Query) (cap : ℕ) (before : LentLists) (r r�
     → CappedKept q cap before after r → CappedKept q cap before after′ r′ → (r ≡ r′) × (after ≡ after′)
 capped-query-one-answer q cap before r r′ after after′ k k′ = same-left (k .leaves ∙ sym (k′ .leaves))
 
+-- and so does what is promised of the search of an accepted query at a cap
+pub search-accepted-one-answer : (q : Query) (cap : ℕ) (before : LentLists) (r r′ : Answer) (after after′ : LentLists)
+    → left r after ≡ searchLeavesAt q cap before → left r′ after′ ≡ searchLeavesAt q cap before → (r ≡ r′) × (after ≡ after′)
+search-accepted-one-answer q cap before r r′ after after′ e f = same-left (e ∙ sym f)
+
 -- the answer that it leaves is `answerToAt`, of which the cases are proved
 pub capped-query-answers : (q : Query) (cap : ℕ) (l : LentLists) → queriedAt q cap l .answer ≡ answerToAt q cap (lengths l)
 unfolding queriedAt answerToAt

@@ -32,7 +32,7 @@ use Rattle.nba.specs.Why.PathLaws.{joined-walk}
 use Rattle.nba.specs.Why.ReadLaws.{Decided, route-decided, none-decided}
 use Rattle.nba.specs.Why.Theorems.{demand-2, demand-3-turns, demand-3-opened-at, demand-3-bound, demand-3-same}
 use Rattle.search.specs.Tables.{atFront}
-use Rattle.search.specs.Promise.{LentLists, lengths, shownPath, listsAt, listsAfter, Left, left, searchLeaves, searchLeavesAt, verdictLeaves, queried}
+use Rattle.search.specs.Promise.{LentLists, lengths, shownPath, listsAt, listsAfter, Left, left, searchLeaves, verdictLeaves, queried}
 use Rattle.search.specs.Demands.{IsRefusal, of-cause, Demand1, Demand2, Demand3, HasFigures, of-a-route, of-no-route, labelsIn, QueryKept}
 
 pub same-left : {r r′ : Answer} {l l′ : LentLists} → left r l ≡ left r′ l′ → (r ≡ r′) × (l ≡ l′)
@@ -42,11 +42,6 @@ same-left e = (ap (λ (x : Left). x .answer) e, ap (λ (x : Left). x .lists) e)
 pub query-one-answer : (q : Query) (before : LentLists) (r r′ : Answer) (after after′ : LentLists)
     → QueryKept q before after r → QueryKept q before after′ r′ → (r ≡ r′) × (after ≡ after′)
 query-one-answer q before r r′ after after′ k k′ = same-left (k .leaves ∙ sym (k′ .leaves))
-
--- and so does what is promised of the search of an accepted query at a cap
-pub search-accepted-one-answer : (q : Query) (cap : ℕ) (before : LentLists) (r r′ : Answer) (after after′ : LentLists)
-    → left r after ≡ searchLeavesAt q cap before → left r′ after′ ≡ searchLeavesAt q cap before → (r ≡ r′) × (after ≡ after′)
-search-accepted-one-answer q cap before r r′ after after′ e f = same-left (e ∙ sym f)
 
 -- the answer that a query leaves is `answerTo`, of which the cases are proved
 pub query-answers : (q : Query) (l : LentLists) → queried q l .answer ≡ answerTo q (lengths l)
