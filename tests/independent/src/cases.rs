@@ -66,7 +66,7 @@ fn case(name: &str, file: &str, fault: Option<Fault>) -> String {
     let read = frames::answer_file(file.as_bytes(), Reader::Program, fault);
     let (query, answer) = &read.asked[0];
     let path: Vec<i64> = match answer {
-        Answer::Route { path, .. } => path.iter().map(|&node| node as i64).collect(),
+        Answer::Route { path, .. } | Answer::Provisional { path, .. } => path.iter().map(|&node| node as i64).collect(),
         _ => Vec::new(),
     };
     let tables = model::answer(&read.network, query, fault).tables;
@@ -96,6 +96,10 @@ fn words(answer: &Answer) -> String {
         }
         Answer::NoRoute { figures } => format!("no route, {}", figures_words(figures)),
         Answer::Refused(refusal) => format!("refused, {}", frames::refusal_line(*refusal).trim_end()),
+        Answer::Provisional { length, excess, path } => {
+            format!("provisional, length {length}, excess {excess}, path nodes {}", path.len())
+        }
+        Answer::Undecided { turns } => format!("undecided, turns {turns}"),
     }
 }
 
