@@ -1,5 +1,5 @@
-// Searches: P1 to P12 (docs/RULES.md, "Cases"), each with its answer, its path, the tables that it leaves and its answer
-// lines; and the largest shortest length. The lent lists are longer than the node count, and hold what is no label, node or
+// Searches: P1 to P12 (docs/RULES.md, "Cases"), and P1 to P4 at caps, each with its answer, its path, the tables that it leaves
+// and its answer lines; and the largest shortest length. The lent lists are longer than the node count, and hold what is no label, node or
 // state of these cases, so that an entry that was written where it may not be is seen.
 use crate::lines;
 use crate::show;
@@ -7,6 +7,15 @@ use network::Answer;
 use network::MOST_NODES;
 use network::MOST_WEIGHT;
 ghost use Prim.Native.Nat.{_≤_};
+
+// District D5.
+const D5_NODES: u16 = 5;
+
+const D5_TAILS: [u16; 5] = [0, 1, 2, 0, 4];
+
+const D5_HEADS: [u16; 5] = [1, 2, 3, 4, 3];
+
+const D5_WEIGHTS: [u32; 5] = [1, 1, 1, 2, 2];
 
 // What the lent lists hold before a search.
 const OLD_LABEL: u32 = 77;
@@ -46,7 +55,43 @@ fn written(a: Answer, count: u16) -> Counts {
             path: 0,
         },
         Answer::Refused(_) => Counts { tables: 0, path: 0 },
+        Answer::Provisional {
+            length: _,
+            excess: _,
+            nodes,
+            figures: _,
+        } => Counts {
+            tables: count as usize,
+            path: nodes as usize,
+        },
+        Answer::Undecided(_) => Counts {
+            tables: count as usize,
+            path: 0,
+        },
     }
+}
+
+// What a query was answered and what it left.
+fn left(
+    name: &[u8],
+    count: u16,
+    a: Answer,
+    start_labels: &[u32],
+    start_neighbours: &[u16],
+    end_labels: &[u32],
+    end_neighbours: &[u16],
+    states: &[u8],
+    path: &[u16],
+) {
+    let w = written(a, count);
+    show::answer(name, a);
+    show::nodes(b"  path:", path, w.path);
+    show::labels(b"  start labels:", start_labels, w.tables);
+    show::nodes(b"  start neighbours:", start_neighbours, w.tables);
+    show::labels(b"  end labels:", end_labels, w.tables);
+    show::nodes(b"  end neighbours:", end_neighbours, w.tables);
+    show::states(b"  states:", states, w.tables);
+    lines::answer(a, path);
 }
 
 // One case: what it answers and what it leaves.
@@ -85,30 +130,71 @@ fn case(
         &mut states,
         &mut path,
     );
-    let w = written(a, count);
-    show::answer(name, a);
-    show::nodes(b"  path:", &path, w.path);
-    show::labels(b"  start labels:", &start_labels, w.tables);
-    show::nodes(b"  start neighbours:", &start_neighbours, w.tables);
-    show::labels(b"  end labels:", &end_labels, w.tables);
-    show::nodes(b"  end neighbours:", &end_neighbours, w.tables);
-    show::states(b"  states:", &states, w.tables);
-    lines::answer(a, &path);
+    left(
+        name,
+        count,
+        a,
+        &start_labels,
+        &start_neighbours,
+        &end_labels,
+        &end_neighbours,
+        &states,
+        &path,
+    );
 }
 
 // A query in district D5.
 fn in_d5(name: &[u8], start: u16, end: u16, pattern: &[u8]) {
     case(
         name,
-        5,
-        &[0, 1, 2, 0, 4],
-        &[1, 2, 3, 4, 3],
-        &[1, 1, 1, 2, 2],
+        D5_NODES,
+        &D5_TAILS,
+        &D5_HEADS,
+        &D5_WEIGHTS,
         &[0; 5],
         &[0; 5],
         start,
         end,
         pattern,
+    );
+}
+
+// The same with a turn cap.
+fn at_cap(name: &[u8], start: u16, end: u16, pattern: &[u8], cap: u16) {
+    let mut start_labels = [OLD_LABEL; LENT];
+    let mut start_neighbours = [OLD_NODE; LENT];
+    let mut end_labels = [OLD_LABEL; LENT];
+    let mut end_neighbours = [OLD_NODE; LENT];
+    let mut states = [OLD_STATE; LENT];
+    let mut path = [OLD_NODE; LENT];
+    let a = search::capped_query(
+        D5_NODES,
+        &D5_TAILS,
+        &D5_HEADS,
+        &D5_WEIGHTS,
+        &[0; 5],
+        &[0; 5],
+        start,
+        end,
+        pattern,
+        cap,
+        &mut start_labels,
+        &mut start_neighbours,
+        &mut end_labels,
+        &mut end_neighbours,
+        &mut states,
+        &mut path,
+    );
+    left(
+        name,
+        D5_NODES,
+        a,
+        &start_labels,
+        &start_neighbours,
+        &end_labels,
+        &end_neighbours,
+        &states,
+        &path,
     );
 }
 
@@ -142,6 +228,22 @@ pub fn p_cases() {
     on_one_arc(b"P10", 1, [-2047000001, 0], [0, 0]);
     case(b"P11", 1, &[], &[], &[], &[0], &[0], 0, 0, &[0]);
     case(b"P12", 2, &[0], &[1], &[1], &[0; 2], &[0; 2], 2, 1, &[]);
+}
+
+// P1 at caps from 0 to one more than the turns that it takes; P2 at a cap where the excess is 0; P3 and P4 at cap 0, and P4 at
+// the turn that ends its search.
+pub fn caps() {
+    at_cap(b"P1, cap 0", 0, 3, &[0, 1], 0);
+    at_cap(b"P1, cap 1", 0, 3, &[0, 1], 1);
+    at_cap(b"P1, cap 2", 0, 3, &[0, 1], 2);
+    at_cap(b"P1, cap 3", 0, 3, &[0, 1], 3);
+    at_cap(b"P1, cap 4", 0, 3, &[0, 1], 4);
+    at_cap(b"P1, cap 5", 0, 3, &[0, 1], 5);
+    at_cap(b"P1, cap 6", 0, 3, &[0, 1], 6);
+    at_cap(b"P2, cap 4", 0, 3, &[1], 4);
+    at_cap(b"P3, cap 0", 2, 2, &[0, 1], 0);
+    at_cap(b"P4, cap 0", 3, 0, &[0, 1], 0);
+    at_cap(b"P4, cap 1", 3, 0, &[0, 1], 1);
 }
 
 // Nodes in rising order from the first, 0 or 1.

@@ -68,6 +68,21 @@ pub fn answer(name: &[u8], a: Answer) {
             figures(f);
         }
         Answer::Refused(cause) => refusal(cause),
+        Answer::Provisional {
+            length,
+            excess,
+            nodes,
+            figures: f,
+        } => {
+            say(b": provisional, length ", length as u64);
+            say(b", excess ", excess as u64);
+            say(b", path nodes ", nodes as u64);
+            figures(f);
+        }
+        Answer::Undecided(f) => {
+            text(b": undecided");
+            figures(f);
+        }
     }
 }
 

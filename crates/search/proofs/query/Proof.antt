@@ -1,45 +1,11 @@
--- `query` meets its contract: the verdict picks what the query leaves, and the demands follow from that. Assumes nothing.
-use mathlib.Core.Path.{sym, _∙_}
-use Rattle.network.specs.Network.{network}
-use Rattle.network.specs.Query.{Query, query}
-use Rattle.search.specs.Promise.{LentLists, lentLists}
-use Rattle.search.proofs.AnswerLaws.{kept-refused, kept-accepted}
+-- `query` meets its contract: it is the query at as many turns as there are nodes. Assumes nothing.
+use Rattle.search.specs.CappedLaws.{capped-query-kept}
 use borrow.Author.Needs.{needs}
 use Rattle.search.proofs.query.Statement.{statement}
 use Rattle.search.proofs.query.Tie as tie
 
--- the query and the lists at entry
-abbrev asked : tie.Start → Query
-asked s =
-    query (network (s .args .nodes) (s .args .tails .now) (s .args .heads .now) (s .args .weights .now)) (s .args .forward .now) (s .args .backward .now)
-    (s .args .start) (s .args .end) (s .args .pattern .now)
-
-abbrev lent : tie.Start → LentLists
-lent s =
-    lentLists (s .args .start-labels .now) (s .args .start-neighbours .now) (s .args .end-labels .now) (s .args .end-neighbours .now)
-    (s .args .states .now) (s .args .path .now)
-
-check-query-requires : tie.Need-check-query-requires
-check-query-requires c κs = search needs
-
-enum-known-verdict : tie.Need-enum-known-verdict
-enum-known-verdict c = search needs
-
-enum-told : tie.Need-enum-told
-enum-told c = search needs
-
-search-accepted-requires : tie.Need-search-accepted-requires
-search-accepted-requires c κs =
-    let check-query = c .before .before .before .before .before .before .before .before .check-query in
-    let enum-told = c .before .before .before .before .before .before .enum-told in
-    sym (check-query .ensures) ∙ enum-told .given .1
-
-returns : tie.Need-returns
-returns c =
-    let entry = c .before .before .before .before .before .before .before .before .before .before .before .before .before .before in
-    let check-query = c .before .before .before .check-query in
-    let verdict = c .before .verdict in
-    kept-refused (asked entry) (lent entry) _ (sym (check-query .ensures) ∙ verdict .given .1)
+capped-query-requires : tie.Need-capped-query-requires
+capped-query-requires c κs = search needs
 
 same-length : tie.Need-same-length
 same-length c =
@@ -69,27 +35,20 @@ same-length-5 c =
 same-length-6 : tie.Need-same-length-6
 same-length-6 c = c .before .path .given
 
-returns-2 : tie.Need-returns-2
-returns-2 c =
-    let entry = c .before .before .before .before .before .before .before .before .before .before .before .before .before .before .before .before .before .before .before .before .before .before .before .before .before .before .before .before .before .before .before .before in
-    let check-query = c .before .before .before .before .before .before .before .before .before .before .before .before .before .before .before .before .before .before .before .before .before .check-query in
-    let enum-told = c .before .before .before .before .before .before .before .before .before .before .before .before .before .before .before .before .before .before .before .enum-told in
-    let search-accepted = c .before .before .before .before .before .before .before .before .before .before .before .before .search-accepted in
-    kept-accepted (asked entry) (lent entry) _ _ (sym (check-query .ensures) ∙ enum-told .given .1) (search-accepted .ensures)
+returns : tie.Need-returns
+returns c =
+    let capped-query = c .before .before .before .before .before .before .before .before .before .before .before .before .capped-query in
+    capped-query-kept _ _ _ _ (capped-query .ensures)
 
 pub query-spec : {M : Type 1} → statement M
 query-spec =
     tie.close
     (tie.spec
-    check-query-requires
-    enum-known-verdict
-    enum-told
-    search-accepted-requires
-    returns
+    capped-query-requires
     same-length
     same-length-2
     same-length-3
     same-length-4
     same-length-5
     same-length-6
-    returns-2)
+    returns)
