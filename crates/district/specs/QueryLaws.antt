@@ -10,7 +10,9 @@ use lib.IntN.{ℤ}
 use lib.ListN.{length, take, drop}
 use lib.Seq.{take-at, take-all, length-take-le}
 use Rattle.network.specs.declared.Answer.{Answer}
-use Rattle.network.specs.declared.Answer.the-variants.{Route, NoRoute, Refused}
+use Rattle.network.specs.declared.Answer.the-variants.{Route, Refused, Provisional}
+use Rattle.network.specs.declared.Cap.{Cap}
+use Rattle.network.specs.declared.Cap.the-variants.{AtMost}
 use Rattle.network.specs.declared.Cause.{Cause}
 use Rattle.network.specs.declared.Verdict.{Verdict}
 use Rattle.network.specs.declared.Verdict.the-variants.{Accepted, Refused as Refusal}
@@ -20,10 +22,10 @@ use Rattle.network.specs.Query.{Query, query}
 use Rattle.network.specs.Refusal.{firstRefusal, badNodeCount, badArcLists, badPotentialLists, listRows, listVerdict, tripVerdict, mapVerdict, queryVerdict}
 use Rattle.network.specs.RefusalLaws.{query-of-sound-lists, network-of-sound-lists}
 use Rattle.nba.specs.State.{State, present}
-use Rattle.nba.specs.Search.{endState}
-use Rattle.nba.specs.Result.{pathOf, answerAt, figuresIn, found, answerTo}
+use Rattle.nba.specs.Search.{stateAt}
+use Rattle.nba.specs.Result.{pathOf, figuresIn, excess, foundAt, answerToAt, turnsGiven}
 use Rattle.search.specs.Tables.{atFront}
-use Rattle.search.specs.Promise.{LentLists, shownPath, listsAfter, Left, left, searchLeaves}
+use Rattle.search.specs.Promise.{LentLists, shownPath, listsAt, Left, left, searchLeavesAt}
 use Rattle.frames.specs.Frame.{mostDigits, frameOf, patternDigits, entriesOf, patternOf}
 use Rattle.frames.specs.FrameCases.{too-long}
 use Rattle.frames.specs.LineSteps.{length-entries}
@@ -37,37 +39,49 @@ use Rattle.district.specs.declared.Reader.{Reader}
 use Rattle.district.specs.File.{workRoom, queryLines, queryOn, withQuery, wrong, taken, takeQuery}
 use Rattle.district.specs.Reader.{Lists as DistrictLists, toldBy, fileOf, Counted, Roomy, Kept}
 use Rattle.district.specs.Inner.{AllRead, Known}
+use Rattle.district.specs.CappedLaws.{capped-lines, by-found}
 use Rattle.district.specs.ReaderLaws.{with-all}
 
--- the lines of what a search found, from the path list that it leaves
-front-lines : (q : Query) (st : State) (old : List ℕ) (t : Bool) (path : List ℕ) → path ≡ pathOf q st
-    → answerLines (cond t (Route (st .best) (length path) (figuresIn (st .states))) (NoRoute (figuresIn (st .states)))) (cond t path [] ++ drop (length (cond t path [])) old)
-    ≡ answerLines (cond t (Route (st .best) (length path) (figuresIn (st .states))) (NoRoute (figuresIn (st .states)))) path
-front-lines q st old false path e = refl
-front-lines q st old true path e =
-    ap (λ (p : List ℕ). answerLine (Route (st .best) (length path) (figuresIn (st .states))) ++ pathLine p)
-    (take-at path (drop (length path) old) (length path) refl ∙ sym (take-all (length path) path (le-refl (length path))))
+module _ (q : Query) (cap : ℕ) where
+  -- where there is a best length, the path is at the front of the list that the search leaves
+  path-in-front : (old : List ℕ) → present (stateAt q cap .best) ≡ true
+      → take (length (pathOf q (stateAt q cap))) (atFront (shownPath q (stateAt q cap)) old) ≡ take (length (pathOf q (stateAt q cap))) (pathOf q (stateAt q cap))
+  unfolding atFront shownPath
+  path-in-front old here =
+      let path : List ℕ = pathOf q (stateAt q cap) in
+      rw here (take-at path (drop (length path) old) (length path) refl ∙ sym (take-all (length path) path (le-refl (length path))))
 
-found-lines : (q : Query) (old : List ℕ) → answerLines (found q) (atFront (shownPath q (endState q)) old) ≡ answerLines (found q) (pathOf q (endState q))
-unfolding found answerAt atFront shownPath
-found-lines q old = front-lines q (endState q) old (present (endState q .best)) (pathOf q (endState q)) refl
+  -- so the lines of what it found, from that list, are those from the path
+  found-lines : (old : List ℕ) → answerLines (foundAt q cap) (atFront (shownPath q (stateAt q cap)) old) ≡ answerLines (foundAt q cap) (pathOf q (stateAt q cap))
+  found-lines old =
+      let n : ℕ = length (pathOf q (stateAt q cap)) in
+      let st : State = stateAt q cap in
+      by-found q cap (λ (a : Answer). answerLines a (atFront (shownPath q st) old) ≡ answerLines a (pathOf q st))
+      (λ here. ap (λ (p : List ℕ). answerLine (Route (st .best) n (figuresIn (st .states))) ++ pathLine p) (path-in-front old here))
+      (λ here. ap (λ (p : List ℕ). answerLine (Provisional (st .best) (excess q st) n (figuresIn (st .states))) ++ pathLine p) (path-in-front old here))
+      (λ _. refl)
+      (λ _. refl)
 
-searched-lines : (q : Query) (l : LentLists) → answerLines (found q) (listsAfter q l .path) ≡ answerLines (found q) (pathOf q (endState q))
-unfolding listsAfter
-searched-lines q l = found-lines q (l .path)
+  searched-lines : (l : LentLists) → answerLines (foundAt q cap) (listsAt q cap l .path) ≡ answerLines (foundAt q cap) (pathOf q (stateAt q cap))
+  unfolding listsAt
+  searched-lines l = found-lines (l .path)
 
--- what the search of an accepted query leaves is printed as the definition says
-pub left-lines : (q : Query) (l : LentLists) (a : Answer) (after : LentLists) → queryVerdict q workRoom ≡ Accepted → left a after ≡ searchLeaves q l → answerLines a (after .path) ≡ queryLines q
-unfolding queryLines answerTo
-left-lines q l a after e h =
-    let x : a ≡ found q = ap (λ (y : Left). y .answer) h in
-    let p : after .path ≡ listsAfter q l .path = ap (λ (y : Left). y .lists .path) h in
-    rw (e, x, p) (searched-lines q l)
+  -- what the search of an accepted query leaves is printed as the definition says
+  pub left-lines : (l : LentLists) (a : Answer) (after : LentLists) → queryVerdict q workRoom ≡ Accepted → left a after ≡ searchLeavesAt q cap l → answerLines a (after .path) ≡ queryLines (AtMost cap) q
+  unfolding queryLines answerToAt
+  left-lines l a after e h =
+      let x : a ≡ foundAt q cap = ap (λ (y : Left). y .answer) h in
+      let p : after .path ≡ listsAt q cap l .path = ap (λ (y : Left). y .lists .path) h in
+      rw (e, x, p) (searched-lines l)
 
--- a refused query prints its refusal
-pub refused-lines : (q : Query) (c : Cause) → queryVerdict q workRoom ≡ Refusal c → answerLines (Refused c) [] ≡ queryLines q
-unfolding queryLines answerTo
-refused-lines q c e = rw e
+  -- a refused query prints its refusal
+  pub refused-lines : (c : Cause) → queryVerdict q workRoom ≡ Refusal c → answerLines (Refused c) [] ≡ queryLines (AtMost cap) q
+  unfolding queryLines answerToAt
+  refused-lines c e = rw e
+
+-- a query prints what it prints with the turns that it gives
+pub given-lines : (c : Cap) (q : Query) (turns : ℕ) → turns ≡ turnsGiven c q → queryLines (AtMost turns) q ≡ queryLines c q
+given-lines c q turns e = ap (λ (n : ℕ). queryLines (AtMost n) q) e ∙ sym (capped-lines c q)
 
 -- ---- the verdict on a query, from the trip's and the network's own
 pub verdict-parts : {own : Verdict} {g : Network} {h k : List ℤ} → Known own g h k → (s e : ℕ) (p : List ℕ)
@@ -128,13 +142,13 @@ pub placed-as : {text text′ room after : List ℕ} {n : ℕ} → text ≡ text
 placed-as {text} {text′} {room} {after} {n} e h = subst (λ (t : List ℕ). Placed t room after n) e h
 
 -- a query that may be asked, and one too many
-module _ (r : Reader) (l : DistrictLists) (s e n : ℕ) where
-  pub one-too-many : (r .single && r .asked) ≡ true → wrong (fileOf r l) (QueryFrame s e n) ≡ takeQuery (fileOf r l) (QueryFrame s e n)
+module _ (r : Reader) (l : DistrictLists) (s e : ℕ) (c : Cap) (n : ℕ) where
+  pub one-too-many : (r .single && r .asked) ≡ true → wrong (fileOf r l) (QueryFrame s e c n) ≡ takeQuery (fileOf r l) (QueryFrame s e c n)
   unfolding takeQuery fileOf toldBy
   one-too-many h = rw h
 
   pub may-be-asked : (r .single && r .asked) ≡ false
-      → taken (fileOf r l) (withQuery (toldBy r l)) (queryLines (queryOn (toldBy r l) s e (patternOf (take (r .held) (l .line)))))
-      ≡ takeQuery (fileOf r l) (QueryFrame s e n)
+      → taken (fileOf r l) (withQuery (toldBy r l)) (queryLines c (queryOn (toldBy r l) s e (patternOf (take (r .held) (l .line)))))
+      ≡ takeQuery (fileOf r l) (QueryFrame s e c n)
   unfolding takeQuery fileOf toldBy
   may-be-asked h = rw h

@@ -1,11 +1,11 @@
 -- `answer::take_query` meets its contract: the query is on as many entries of each list as the reader counts. Assumes nothing.
-use mathlib.Core.Path.{sym, _∙_}
+use mathlib.Core.Path.{refl, sym, _∙_}
 use native.Mathlib.Omega.{arith}
 use lib.Seq.{length-take-le}
 use Rattle.district.specs.Reader.{toldBy, fileOf}
 use Rattle.district.specs.ReaderLaws.{stepped-as}
 use Rattle.district.specs.TakenLaws.{query-taken}
-use Rattle.district.specs.QueryLaws.{known-by, one-too-many, may-be-asked}
+use Rattle.district.specs.QueryLaws.{known-by, placed-as, given-lines, one-too-many, may-be-asked}
 use Rattle.district.proofs.OtherFrames.{not-among, no-query}
 use borrow.Author.Needs.{needs}
 use Rattle.district.proofs.answer.take_query.Statement.{statement}
@@ -43,7 +43,7 @@ returns-2 c =
     let one-too-many-here = c .before .before .before .before .before .one-too-many in
     let if1 = c .before .before .before .before .if1 in
     let refuse-frame2 = c .before .before .refuse-frame2 in
-    stepped-as (rw (frame .given .1) (one-too-many _ _ _ _ _ (sym (one-too-many-here .ensures) ∙ if1 .taken))) (refuse-frame2 .ensures .law _ (entry .pre .1 .1))
+    stepped-as (rw (frame .given .1) (one-too-many _ _ _ _ _ _ (sym (one-too-many-here .ensures) ∙ if1 .taken))) (refuse-frame2 .ensures .law _ (entry .pre .1 .1))
 
 slice-aggregate-answer-query : tie.Need-slice-aggregate-answer-query
 slice-aggregate-answer-query c =
@@ -95,8 +95,8 @@ returns-3 c =
     let if1 = c .before .before .before .before .before .before .before .before .before .before .before .if1 in
     let answer-query = c .before .before .before .answer-query in
     let r = entry .args .reader in
-    stepped-as (rw (frame .given .1) (may-be-asked r _ _ _ _ (sym (one-too-many-here .ensures) ∙ if1 .left)))
-    (query-taken r _ _ _ _ _ _ (c .next-line .ensures) (entry .pre .1 .1) (answer-query .ensures))
+    stepped-as (rw (frame .given .1) (may-be-asked r _ _ _ _ _ (sym (one-too-many-here .ensures) ∙ if1 .left)))
+    (query-taken r _ _ _ _ _ _ (c .next-line .ensures) (entry .pre .1 .1) (placed-as (given-lines _ _ _ (c@turns-given .ensures _ refl)) (answer-query .ensures)))
 
 pub take-query-spec : {M : Type 1} → statement M
 take-query-spec =
