@@ -1,4 +1,4 @@
--- Why the demands are met (docs/RULES.md, "The three demands"), from the definitions up:
+-- Why the demands are met (docs/RULES.md, "The three demands" and "Capped queries"), from the definitions up:
 --     ByMark                                  the search as the code makes it: the mark for what is missing, compared as a number
 --     Tabled, StateLaws, CodeLaws, CountLaws  tables, states put together over the side, scans of arcs, counts of states
 --     Measures, MeasureLaws, LeastLaws        the numbers that are compared, and the choice of step 3
@@ -8,8 +8,10 @@
 --     Invariant, RunLaws                      all of them together, before every turn; the search ends
 --     TrailLaws, PathLaws, ShortWalk          trails and paths as lists, and walks without repetition
 --     ByMarkLaws                              the search by marks is the search
---     EndLaws                                 the state at the end, start equal to end included
---     Fits, Theorems, Accepted                the demands, of every sound query and of every accepted one
+--     EndLaws                                 the state at a cap and at the end, start equal to end included
+--     Fits, Theorems                          the demands, of every sound query
+--     ExcessLaws, ReadLaws, Capped            the excess, how an answer at a cap reads, and what is demanded of it
+--     Accepted                                all of it, of every accepted query
 --     Longest                                 the largest shortest length is reached
 -- Assumes nothing.
 pub mod ByMark
@@ -39,5 +41,8 @@ pub mod ByMarkLaws
 pub mod EndLaws
 pub mod Fits
 pub mod Theorems
+pub mod ExcessLaws
+pub mod ReadLaws
+pub mod Capped
 pub mod Accepted
 pub mod Longest

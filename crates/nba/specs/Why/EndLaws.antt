@@ -1,13 +1,12 @@
--- The end of a search: how an answer reads the state at the end, and what that state is worth, start equal to end included.
--- Assumes nothing.
-use mathlib.Core.Path.{_≡_, refl, ap, _∙_}
+-- The state at a cap and at the end: how an answer reads it, and what it is worth, start equal to end included. Assumes nothing.
+use mathlib.Core.Path.{_≡_, refl, sym, ap, _∙_}
 use mathlib.Core.Logic.{_≢_}
-use mathlib.Core.Bool.{false}
+use mathlib.Core.Bool.{true, false}
 use Prim.Native.Nat.{ℕ, _+_, _≤_, _<_}
 use native.Mathlib.Omega.{arith}
 use lib.Dec.{eqb}
 use lib.ListN.{length}
-use borrow.Author.Tests.{lt-ltb, le-ltb, ltb-true, ltb-false, eqb-true, eqb-false}
+use borrow.Author.Tests.{lt-ltb, le-ltb, ltb-true, ltb-false, eqb-true, eqb-false, eq-eqb, ne-eqb}
 use Rattle.network.specs.declared.Figures.{Figures}
 use Rattle.network.specs.declared.Answer.the-variants.{Route, NoRoute}
 use Rattle.network.specs.Network.{Side, start, end}
@@ -15,11 +14,11 @@ use Rattle.network.specs.Query.{Query, source}
 use Rattle.network.specs.Given.{Sound}
 use Rattle.network.specs.CaseSplit.{by-bool, by-lt, true≢false}
 use Rattle.nba.specs.State.{missing, present, State, half, labelOf}
-use Rattle.nba.specs.Search.{ended, atOnce, endState}
+use Rattle.nba.specs.Search.{ended, atOnce, stateAt, endState}
 use Rattle.nba.specs.Why.ByMark.{afterTurnsByMark}
-use Rattle.nba.specs.Result.{pathOf, figuresIn, answerAt}
+use Rattle.nba.specs.Result.{pathOf, figuresIn, answerAt, over}
 use Rattle.nba.specs.Demands.{WalkOfLength, Joined, NoneTwice}
-use Rattle.nba.specs.Why.CodeLaws.{at-once-tabled, stays-ended-by-mark, end-unsearched}
+use Rattle.nba.specs.Why.CodeLaws.{at-once-tabled, stays-ended-by-mark, unsearched-at}
 use Rattle.nba.specs.Why.BeginningLaws.{at-once-begun, begun-source}
 use Rattle.nba.specs.Why.Trails.{Trail, at-source, HasTrail, trail-short}
 use Rattle.nba.specs.Why.PathLaws.{path-joined, path-none-twice}
@@ -27,7 +26,7 @@ use Rattle.nba.specs.Why.ShortWalk.{walk-beside}
 use Rattle.nba.specs.Why.Ways.{walk-inside}
 use Rattle.nba.specs.Why.Invariant.{Orderly, Invariant}
 use Rattle.nba.specs.Why.RunLaws.{ends, begun-orderly, orderly, invariant, ended-least}
-use Rattle.nba.specs.Why.ByMarkLaws.{same-end}
+use Rattle.nba.specs.Why.ByMarkLaws.{same-at}
 
 -- ---- reading an answer
 -- a route answered: the best length is present, and is its length
@@ -114,26 +113,56 @@ meeting-at-once {q} sound e =
     by start = at-once-meeting q
     by end = at-once-meeting q ∙ e
 
--- ---- the state at the end
--- what the state at the end is worth
-pub record AtEnd (q : Query) (st : State) : Type 0 where
+-- ---- the state at a cap
+-- what it is worth: a present best length has a meeting node with its trails
+pub record AtCap (q : Query) (st : State) : Type 0 where
   pub orderly : Orderly q st
-  -- a present best length has a meeting node with its trails
   pub meeting : st .best < missing → Meeting q st
-  -- no walk is shorter than the best length
-  pub least : (l : ℕ) → WalkOfLength q l → st .best ≤ l
 
 module _ {q : Query} (sound : Sound q) where
-  -- a bound for walks below the missing mark is one for all
-  all-walks : {b : ℕ} → ((l : ℕ) → l < missing → WalkOfLength q l → b ≤ l) → (l : ℕ) → WalkOfLength q l → b ≤ l
-  all-walks f l p =
-      let r = walk-beside sound (sound .source-in start) p in
-      omega (arith, r .no-longer, f (r .total) (omega (arith, r .small)) (r .walk))
+  pub at-once-at : q .start ≡ q .end → (cap : ℕ) → stateAt q cap ≡ atOnce q
+  at-once-at e cap = unsearched-at q cap (eq-eqb (q .start) (q .end) e)
 
-  pub end-state-ends : q .start ≢ q .end → endState q ≡ afterTurnsByMark q (ends sound .turns)
-  end-state-ends d =
+  -- what holds at once, and after so many turns of the search by marks, holds of the state at the cap
+  pub by-start : (P : State → Type 0) (cap : ℕ) → (q .start ≡ q .end → P (atOnce q)) → (q .start ≢ q .end → P (afterTurnsByMark q cap)) → P (stateAt q cap)
+  by-start P cap f g =
+      by-bool (eqb (q .start) (q .end))
+      (λ t. let e = eqb-true (q .start) (q .end) t in rw (at-once-at e cap) (f e))
+      (λ t. let d = eqb-false (q .start) (q .end) t in rw (same-at sound d cap) (g d))
+
+  pub at-cap : (cap : ℕ) → AtCap q (stateAt q cap)
+  at-cap cap =
+      by-start (AtCap q) cap
+      (λ e. record {
+        orderly = begun-orderly sound (at-once-begun q) (at-once-tabled q) (omega (arith, at-once-best q));
+        meeting = λ h. meeting-at-once sound e;
+      })
+      (λ d. let inv = invariant sound d cap in record { orderly = inv .orderly; meeting = λ h. has-meeting sound inv h })
+
+  -- ---- once no more turns are needed
+  over-at-once : q .start ≡ q .end → (st : State) → over q st ≡ true
+  over-at-once e st = rw (eq-eqb (q .start) (q .end) e)
+
+  over-searched : q .start ≢ q .end → (st : State) → over q st ≡ ended q st
+  over-searched d st = rw (ne-eqb (q .start) (q .end) d)
+
+  -- the state is the same at every larger cap
+  pub ended-stays : (c d : ℕ) → c ≤ d → over q (stateAt q c) ≡ true → stateAt q d ≡ stateAt q c
+  ended-stays c d l h =
+      by-bool (eqb (q .start) (q .end))
+      (λ t. unsearched-at q d t ∙ sym (unsearched-at q c t))
+      (λ t. let f = eqb-false (q .start) (q .end) t in
+      let here : ended q (afterTurnsByMark q c) ≡ true = ap (ended q) (sym (same-at sound f c)) ∙ sym (over-searched f (stateAt q c)) ∙ h in
+      same-at sound f d ∙ stays-ended-by-mark q c d here l ∙ sym (same-at sound f c))
+
+  -- and as many turns as there are nodes always suffice
+  pub over-at-end : over q (endState q) ≡ true
+  over-at-end =
+      let n = q .network .nodes in
       let e = ends sound in
-      same-end sound d ∙ stays-ended-by-mark q (e .turns) (q .network .nodes) (e .over) (e .few)
+      by-start (λ st. over q st ≡ true) n
+      (λ h. over-at-once h (atOnce q))
+      (λ d. over-searched d (afterTurnsByMark q n) ∙ ap (ended q) (stays-ended-by-mark q (e .turns) n (e .over) (e .few)) ∙ e .over)
 
   -- before the search has ended, fewer turns are over than there are nodes
   pub going-few : (i : ℕ) → ended q (afterTurnsByMark q i) ≡ false → i < q .network .nodes
@@ -142,32 +171,21 @@ module _ {q : Query} (sound : Sound q) where
       by-lt i (e .turns) (λ l. omega (arith, e .few))
       (λ l. absurd (true≢false (ap (ended q) (stays-ended-by-mark q (e .turns) i (e .over) l) ∙ e .over) h))
 
-  pub end-state-at-once : q .start ≡ q .end → endState q ≡ atOnce q
-  end-state-at-once e =
-      by-bool (eqb (q .start) (q .end)) (λ t. end-unsearched q t) (λ t. absurd (eqb-false (q .start) (q .end) t e))
+  -- a bound for walks below the missing mark is one for all
+  all-walks : {b : ℕ} → ((l : ℕ) → l < missing → WalkOfLength q l → b ≤ l) → (l : ℕ) → WalkOfLength q l → b ≤ l
+  all-walks f l p =
+      let r = walk-beside sound (sound .source-in start) p in
+      omega (arith, r .no-longer, f (r .total) (omega (arith, r .small)) (r .walk))
 
-  at-once-end : q .start ≡ q .end → AtEnd q (atOnce q)
-  at-once-end e = record {
-    orderly = begun-orderly sound (at-once-begun q) (at-once-tabled q) (omega (arith, at-once-best q));
-    meeting = λ h. meeting-at-once sound e;
-    least = λ l p. omega (arith, at-once-best q);
-  }
+  -- no walk is shorter than the best length then
+  pub over-least : (cap : ℕ) → over q (stateAt q cap) ≡ true → (l : ℕ) → WalkOfLength q l → stateAt q cap .best ≤ l
+  over-least cap =
+      by-start (λ st. over q st ≡ true → (l : ℕ) → WalkOfLength q l → st .best ≤ l) cap
+      (λ e h l p. omega (arith, at-once-best q))
+      (λ d h. all-walks (ended-least sound (invariant sound d cap) (sym (over-searched d (afterTurnsByMark q cap)) ∙ h)))
 
-  run-end : q .start ≢ q .end → AtEnd q (afterTurnsByMark q (ends sound .turns))
-  run-end d =
-      let e = ends sound in
-      let inv = invariant sound d (e .turns) in
-      record {
-        orderly = inv .orderly;
-        meeting = λ h. has-meeting sound inv h;
-        least = all-walks (ended-least sound inv (e .over));
-      }
-
-  pub at-end : AtEnd q (endState q)
-  at-end =
-      by-bool (eqb (q .start) (q .end))
-      (λ t. let e = eqb-true (q .start) (q .end) t in rw (end-state-at-once e) (at-once-end e))
-      (λ t. let d = eqb-false (q .start) (q .end) t in rw (end-state-ends d) (run-end d))
+  pub least-at-end : (l : ℕ) → WalkOfLength q l → endState q .best ≤ l
+  least-at-end = over-least (q .network .nodes) over-at-end
 
 -- the path over the meeting node
 pub path-real : {q : Query} {st : State} → Meeting q st → Joined (q .network) (pathOf q st) (q .start) (q .end) (st .best)

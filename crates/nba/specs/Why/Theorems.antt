@@ -1,17 +1,16 @@
 -- Demands 2 and 3, of every accepted query and every turn pattern. Each is read off the invariant and the state at the end.
 -- Assumes nothing.
-use mathlib.Core.Path.{_≡_, sym, ap, _∙_}
+use mathlib.Core.Path.{_≡_, refl, sym, ap, _∙_}
 use mathlib.Core.Logic.{_≢_}
 use mathlib.Core.Bool.{true, false}
 use mathlib.Core.List.{List}
 use Prim.Native.Nat.{ℕ, zero, suc, _+_, _≤_, _<_}
 use native.Mathlib.Omega.{arith}
 use native.Mathlib.Nat.{le-refl}
-use lib.Dec.{eqb}
 use lib.IntN.{pos}
 use lib.ListN.{length, getD, List·getD-eq-default}
 use lib.Signed.{leZ}
-use borrow.Author.Tests.{ltb-true, le-leb, eqb-true, eqb-false}
+use borrow.Author.Tests.{ltb-true, le-leb}
 use Rattle.network.specs.declared.Figures.{Figures}
 use Rattle.network.specs.declared.Answer.the-variants.{Route}
 use Rattle.network.specs.Network.{Side, start, end}
@@ -20,18 +19,19 @@ use Rattle.network.specs.WalkLaws.{walk-is, walk-turned}
 use Rattle.network.specs.Potential.{potentialAt}
 use Rattle.network.specs.Query.{Query, potentials, source}
 use Rattle.network.specs.Given.{Sound}
-use Rattle.network.specs.CaseSplit.{by-eq, by-lt, by-bool}
+use Rattle.network.specs.CaseSplit.{by-eq, by-lt}
 use Rattle.network.specs.Shift.{up, low-mag, up-within}
 use Rattle.network.specs.PotentialLaws.{shift, shifted}
 use Rattle.nba.specs.State.{missing, present, State, half, labelOf, neighbourOf, stateOf, openedBy}
-use Rattle.nba.specs.Search.{keyOf, target, boundByTarget, rejected, afterTurns, atOnce, endState}
+use Rattle.nba.specs.Search.{keyOf, target, boundByTarget, rejected, afterTurns, atOnce, stateAt, endState}
 use Rattle.nba.specs.Why.ByMark.{afterTurnsByMark}
 use Rattle.nba.specs.Result.{figuresIn, found}
-use Rattle.nba.specs.Demands.{WalkOfLength, Demand2Found, Demand3Turns, Demand3Opened, Demand3Bound, withPattern, SameLengthAndVerdict, both-routes, both-none, BelowTheMark}
+use Rattle.nba.specs.Demands.{WalkOfLength, Demand2Found, Demand3Turns, Demand3Opened, Demand3Bound, withPattern, SameLengthAndVerdict, both-routes, both-none, BelowTheMark, pathAt}
 use Rattle.nba.specs.Why.Fits.{EntriesFit, FiguresFit, PathFits}
 use Rattle.nba.specs.Why.Measures.{potential}
 use Rattle.nba.specs.Why.MeasureLaws.{opened-some, taken-opened, shiftable}
 use Rattle.nba.specs.Why.LeastLaws.{key-lifted, key-shifted}
+use Rattle.nba.specs.Why.CodeLaws.{stays-ended-by-mark}
 use Rattle.nba.specs.Why.CountLaws.{count-left}
 use Rattle.nba.specs.Why.BeginningLaws.{at-once-begun, begun-undecided}
 use Rattle.nba.specs.Why.Trails.{label-small}
@@ -40,14 +40,14 @@ use Rattle.nba.specs.Why.PathLaws.{Every, of-none, of-more, joined-is, j
 use Rattle.nba.specs.Why.ShortWalk.{walk-beside, none-twice-short, joined-inside, joined-some}
 use Rattle.nba.specs.Why.Invariant.{Orderly, Invariant}
 use Rattle.nba.specs.Why.RunLaws.{ends, turns-figure, orderly, invariant, turn-leaves, left-once}
-use Rattle.nba.specs.Why.ByMarkLaws.{same-search}
-use Rattle.nba.specs.Why.EndLaws.{RouteRead, route-read, no-route-read, route-answered, no-route-answered, at-end, end-state-ends, end-state-at-once, path-real, path-once}
+use Rattle.nba.specs.Why.ByMarkLaws.{same-search, same-at}
+use Rattle.nba.specs.Why.EndLaws.{RouteRead, route-read, no-route-read, route-answered, no-route-answered, by-start, at-cap, least-at-end, path-real, path-once}
 
 -- ---- demand 2
 module _ {q : Query} (sound : Sound q) where
   -- the best length at the end, where it is present, is the length of a walk
   walk-of-answer : endState q .best < missing → WalkOfLength q (endState q .best)
-  walk-of-answer h = joined-walk (path-real (at-end sound .meeting h))
+  walk-of-answer h = joined-walk (path-real (at-cap sound (q .network .nodes) .meeting h))
 
   read : {l n : ℕ} {f : Figures} → found q ≡ Route l n f → RouteRead q (endState q) l n
   unfolding found
@@ -56,20 +56,21 @@ module _ {q : Query} (sound : Sound q) where
   pub demand-2 : Demand2Found q
   unfolding found
   demand-2 =
-      let a = at-end sound in
+      let a = at-cap sound (q .network .nodes) in
+      let least = least-at-end sound in
       record {
         real = λ {l} {n} {f} e. let r = read e in joined-is (r .length-is) (path-real (a .meeting (r .here)));
         none-twice = λ {l} {n} {f} e. path-once (a .meeting (read e .here));
-        shortest = λ {l} {n} {f} e m p. omega (arith, a .least m p, read e .length-is);
+        shortest = λ {l} {n} {f} e m p. omega (arith, least m p, read e .length-is);
         no-walk = λ {f} e m p.
             let r = walk-beside sound (sound .source-in start) p in
-            omega (arith, no-route-read q (endState q) f e, a .least (r .total) (r .walk), r .small);
+            omega (arith, no-route-read q (endState q) f e, least (r .total) (r .walk), r .small);
         no-route = λ none. no-route-answered q (endState q)
             (by-lt (endState q .best) missing (λ h. absurd (none (endState q .best) (walk-of-answer h))) (λ h. h));
         largest = λ {l} {n} {f} e.
             let r = read e in
             let b = walk-beside sound (sound .source-in start) (walk-of-answer (r .here)) in
-            omega (arith, a .least (b .total) (b .walk), b .small, r .length-is);
+            omega (arith, least (b .total) (b .walk), b .small, r .length-is);
       }
 
 -- ---- demand 3
@@ -77,7 +78,7 @@ module _ {q : Query} (sound : Sound q) where
 pub demand-3-turns : {q : Query} → Sound q → q .start ≢ q .end → Demand3Turns q (figuresIn (endState q .states) .turns)
 demand-3-turns {q} sound d =
     let e = ends sound in
-    let at = end-state-ends sound d in
+    let at = same-at sound d (q .network .nodes) ∙ stays-ended-by-mark q (e .turns) (q .network .nodes) (e .over) (e .few) in
     let st = afterTurnsByMark q (e .turns) in
     let same = same-search sound d in
     let turns : figuresIn (endState q .states) .turns ≡ e .turns = ap (λ (st : State). figuresIn (st .states) .turns) at ∙ omega (arith, turns-figure sound st (orderly sound (e .turns) .tabled .states-long), e .left-are-turns) in
@@ -116,24 +117,23 @@ opened-right {q} {st} sound inv = record {
       signed-bound sound s st v l (omega (arith, r .no-longer, inv .exact s .bound v o (r .total) (omega (arith, r .small)) (r .walk)));
 }
 
--- a node opened from a side carries its exact distance and keeps the bound: before every turn, and at the end
+-- a node opened from a side carries its exact distance and keeps the bound: before every turn, and at every cap
 pub demand-3-opened : {q : Query} → Sound q → q .start ≢ q .end → (i : ℕ) → Demand3Opened q (afterTurns q i)
 demand-3-opened sound d i = rw (same-search sound d i) (opened-right sound (invariant sound d i))
 
-pub demand-3-opened-end : {q : Query} → Sound q → Demand3Opened q (endState q)
-demand-3-opened-end {q} sound =
-    by-bool (eqb (q .start) (q .end))
-    (λ t. let e = eqb-true (q .start) (q .end) t in
-    let none : (s : Side) (v : ℕ) → stateOf (atOnce q) v ≡ openedBy s → ⊥ = λ s v o. omega (arith, begun-undecided (at-once-begun q) v, opened-some s) in
-    rw (end-state-at-once sound e) (record { reached = λ s v o. absurd (none s v o); nearest = λ s v o. absurd (none s v o); bound = λ s v o. absurd (none s v o) }))
-    (λ t. let d = eqb-false (q .start) (q .end) t in rw (end-state-ends sound d) (opened-right sound (invariant sound d (ends sound .turns))))
+pub demand-3-opened-at : {q : Query} → Sound q → (cap : ℕ) → Demand3Opened q (stateAt q cap)
+demand-3-opened-at {q} sound cap =
+    by-start sound (Demand3Opened q) cap
+    (λ e. let none : (s : Side) (v : ℕ) → stateOf (atOnce q) v ≡ openedBy s → ⊥ = λ s v o. omega (arith, begun-undecided (at-once-begun q) v, opened-some s) in
+    record { reached = λ s v o. absurd (none s v o); nearest = λ s v o. absurd (none s v o); bound = λ s v o. absurd (none s v o) })
+    (λ d. opened-right sound (invariant sound d cap))
 
 -- the bound against the length answered
 pub demand-3-bound : {q : Query} → Sound q → Demand3Bound q
 demand-3-bound {q} sound = record {
   bound = λ {l} {n} {f} e s v o.
       let r = read sound e in
-      demand-3-opened-end sound .bound s v o l (walk-is (r .length-is) (walk-of-answer sound (r .here)));
+      demand-3-opened-at sound (q .network .nodes) .bound s v o l (walk-is (r .length-is) (walk-of-answer sound (r .here)));
 }
 
 -- length and verdict are the same for every pattern
@@ -144,12 +144,12 @@ demand-3-same {q} p sound sound′ =
     let b = endState q .best in
     let b′ = endState q′ .best in
     by-lt b missing
-    (λ h. let i = at-end sound′ .least b (walk-of-answer sound h) in
+    (λ h. let i = least-at-end sound′ b (walk-of-answer sound h) in
     let h′ : b′ < missing = omega arith in
-    let j = at-end sound .least b′ (walk-of-answer sound′ h′) in
+    let j = least-at-end sound b′ (walk-of-answer sound′ h′) in
     let e : b ≡ b′ = omega arith in
     rw (route-answered q (endState q) h, route-answered q′ (endState q′) h′, e) both-routes)
-    (λ h. let h′ : missing ≤ b′ = by-lt b′ missing (λ h′. omega (arith, at-end sound .least b′ (walk-of-answer sound′ h′))) (λ k. k) in
+    (λ h. let h′ : missing ≤ b′ = by-lt b′ missing (λ h′. omega (arith, least-at-end sound b′ (walk-of-answer sound′ h′))) (λ k. k) in
     rw (no-route-answered q (endState q) h, no-route-answered q′ (endState q′) h′) both-none)
 
 -- ---- with no best length, nothing is rejected
@@ -183,18 +183,18 @@ entries-fit {q} {st} sound o = record {
   states-fit = o .few;
 }
 
--- labels stay below the missing mark, and every entry fits: before every turn, and at the end
+-- labels stay below the missing mark, and every entry fits: before every turn, and at every cap
 pub below-the-mark : {q : Query} → Sound q → q .start ≢ q .end → (i : ℕ) → BelowTheMark q (afterTurns q i)
 below-the-mark sound d i = rw (same-search sound d i) (labels-below sound (orderly sound i))
 
-pub below-the-mark-end : {q : Query} → Sound q → BelowTheMark q (endState q)
-below-the-mark-end sound = labels-below sound (at-end sound .orderly)
+pub below-the-mark-at : {q : Query} → Sound q → (cap : ℕ) → BelowTheMark q (stateAt q cap)
+below-the-mark-at sound cap = labels-below sound (at-cap sound cap .orderly)
 
 pub entries-small : {q : Query} → Sound q → q .start ≢ q .end → (i : ℕ) → EntriesFit q (afterTurns q i)
 entries-small sound d i = rw (same-search sound d i) (entries-fit sound (orderly sound i))
 
-pub entries-small-end : {q : Query} → Sound q → EntriesFit q (endState q)
-entries-small-end sound = entries-fit sound (at-end sound .orderly)
+pub entries-small-at : {q : Query} → Sound q → (cap : ℕ) → EntriesFit q (stateAt q cap)
+entries-small-at sound cap = entries-fit sound (at-cap sound cap .orderly)
 
 figures-fit : {q : Query} {st : State} → Sound q → Orderly q st → FiguresFit q (figuresIn (st .states))
 unfolding figuresIn
@@ -206,24 +206,27 @@ figures-fit {q} {st} sound o = record {
 pub figures : {q : Query} → Sound q → q .start ≢ q .end → (i : ℕ) → FiguresFit q (figuresIn (afterTurns q i .states))
 figures sound d i = rw (same-search sound d i) (figures-fit sound (orderly sound i))
 
-pub figures-end : {q : Query} → Sound q → FiguresFit q (figuresIn (endState q .states))
-figures-end sound = figures-fit sound (at-end sound .orderly)
+pub figures-at : {q : Query} → Sound q → (cap : ℕ) → FiguresFit q (figuresIn (stateAt q cap .states))
+figures-at sound cap = figures-fit sound (at-cap sound cap .orderly)
 
 every-at : {P : ℕ → Type 0} {l : List ℕ} → Every P l → (i : ℕ) → i < length l → P (getD l i 0)
 every-at of-none i h = absurd (omega arith)
 every-at (of-more p e) zero h = p
 every-at (of-more p e) (suc i) h = every-at e i (omega arith)
 
--- the path of a route has at least one node and no more than there are, all of them nodes
-pub path-fits : {q : Query} {l n : ℕ} {f : Figures} → Sound q → found q ≡ Route l n f → PathFits q n
-path-fits {q} sound e =
-    let r = read sound e in
-    let m = at-end sound .meeting (r .here) in
+-- the path through the meeting node has at least one node and no more than there are, all of them nodes: at every cap, and of a
+-- route answered
+pub path-fits-at : {q : Query} → Sound q → (cap : ℕ) → stateAt q cap .best < missing → PathFits q cap (length (pathAt q cap))
+path-fits-at {q} sound cap h =
+    let m = at-cap sound cap .meeting h in
     let j = path-real m in
     let i = joined-inside sound j (sound .source-in start) in
     record {
-      long = r .nodes-are;
-      some = omega (arith, r .nodes-are, joined-some j);
-      few = omega (arith, r .nodes-are, none-twice-short (path-once m) i);
-      inside = λ k h. every-at i k (omega (arith, r .nodes-are));
+      long = refl;
+      some = joined-some j;
+      few = none-twice-short (path-once m) i;
+      inside = λ k l. every-at i k l;
     }
+
+pub path-fits : {q : Query} {l n : ℕ} {f : Figures} → Sound q → found q ≡ Route l n f → PathFits q (q .network .nodes) n
+path-fits {q} sound e = let r = read sound e in rw (r .nodes-are) at (path-fits-at sound (q .network .nodes) (r .here))
