@@ -11,16 +11,18 @@ use Rattle.network.specs.declared.Cap.{Cap}
 use Rattle.network.specs.declared.Cap.the-variants.{AtMost}
 use Rattle.network.specs.declared.Cause.{Cause}
 use Rattle.network.specs.declared.Answer.{Answer}
+use Rattle.network.specs.declared.Figures.{Figures}
 use Rattle.network.specs.declared.Verdict.{Verdict}
 use Rattle.network.specs.declared.Verdict.the-variants.{Accepted, Refused as Refusal}
 use Rattle.network.specs.CaseSplit.{by-bool}
+use Rattle.network.specs.Network.{mostNodes}
 use Rattle.network.specs.Query.{Query}
 use Rattle.network.specs.Refusal.{queryVerdict}
 use Rattle.network.specs.Given.{Sound}
 use Rattle.network.specs.SoundLaws.{accepted-sound}
-use Rattle.nba.specs.State.{missing}
+use Rattle.nba.specs.State.{missing, present, State}
 use Rattle.nba.specs.Search.{stateAt}
-use Rattle.nba.specs.Result.{pathOf, refusedOr, foundAt, answerToAt, turnsGiven}
+use Rattle.nba.specs.Result.{pathOf, figuresIn, excess, refusedOr, foundAt, answerToAt, turnsGiven}
 use Rattle.nba.specs.Why.Theorems.{path-fits-at}
 use Rattle.frames.specs.AnswerLines.{answerLines}
 use Rattle.frames.specs.AnswerLaws.{length-refused, length-no-route, length-route, length-provisional, length-undecided}
@@ -66,13 +68,16 @@ rest-ended f (b ∷ bytes) ended =
 -- ---- how much is printed
 found-short : (q : Query) → Sound q → (cap : ℕ) → length (answerLines (foundAt q cap) (pathOf q (stateAt q cap))) ≤ mostBytes
 found-short q sound cap =
-    let path : List ℕ = pathOf q (stateAt q cap) in
+    let st : State = stateAt q cap in
+    let path : List ℕ = pathOf q st in
+    let f : Figures = figuresIn (st .states) in
     let nodes : length (take (length path) path) ≤ length path = rw length-take (omega arith) in
+    let few : present (st .best) ≡ true → length path ≤ mostNodes = λ here. omega (arith, path-fits-at sound cap (ltb-true (st .best) missing here) .few, sound .sized .few-nodes) in
     by-found q cap (λ (a : Answer). length (answerLines a path) ≤ mostBytes)
-    (λ here. omega (arith, length-route _ (length path) _ path, nodes, path-fits-at sound cap (ltb-true (stateAt q cap .best) missing here) .few, sound .sized .few-nodes))
-    (λ here. omega (arith, length-provisional _ _ (length path) _ path, nodes, path-fits-at sound cap (ltb-true (stateAt q cap .best) missing here) .few, sound .sized .few-nodes))
-    (λ _. omega (arith, length-no-route _ path))
-    (λ _. omega (arith, length-undecided _ path))
+    (λ here. omega (arith, length-route (st .best) (length path) f path, nodes, few here))
+    (λ here. omega (arith, length-provisional (st .best) (excess q st) (length path) f path, nodes, few here))
+    (λ _. omega (arith, length-no-route f path))
+    (λ _. omega (arith, length-undecided f path))
 
 capped-short : (q : Query) (cap : ℕ) → length (queryLines (AtMost cap) q) ≤ mostBytes
 unfolding queryLines answerToAt

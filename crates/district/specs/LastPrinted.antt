@@ -146,10 +146,10 @@ refused-none c path q = one-none (record { law = λ _. rw (refusal-number c) q }
 found-none : (q : Query) (cap : ℕ) (path : List ℕ) → NoFiles (texts (foundAt q cap) path)
 unfolding spelled
 found-none q cap path =
-    let on-path : (nodes : List ℕ) → NoFiles (pathText nodes ∷ []) = λ nodes. one-none (kind-none 130 _ (omega arith)) nothing-none in
+    let on-path : NoFiles (pathText (take (length (pathOf q (stateAt q cap))) path) ∷ []) = one-none (kind-none 130 _ (omega arith)) nothing-none in
     by-found q cap (λ (a : Answer). NoFiles (texts a path))
-    (λ _. one-none (kind-none 129 _ (omega arith)) (on-path _))
-    (λ _. one-none (kind-none 132 _ (omega arith)) (on-path _))
+    (λ _. one-none (kind-none 129 _ (omega arith)) on-path)
+    (λ _. one-none (kind-none 132 _ (omega arith)) on-path)
     (λ _. one-none (kind-none 128 _ (omega arith)) nothing-none)
     (λ _. one-none (kind-none 133 _ (omega arith)) nothing-none)
 

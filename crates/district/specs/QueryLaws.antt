@@ -1,7 +1,7 @@
 -- What the code prints for a query is what the definition says: the path that the search leaves at the front of its list is the
--- path of the answer, and a line's pattern has at most 255 entries. Assumes nothing.
+-- path of the answer, and a list of 255 entries takes a line's pattern whole. Assumes nothing.
 use mathlib.Core.Path.{_≡_, refl, sym, ap, subst, _∙_}
-use mathlib.Core.Bool.{Bool, true, false, cond, _&&_}
+use mathlib.Core.Bool.{true, false, _&&_}
 use mathlib.Core.List.{List, [], _∷_, _++_}
 use Prim.Native.Nat.{ℕ, _≤_, _<_}
 use native.Mathlib.Nat.{le-refl}
@@ -16,7 +16,6 @@ use Rattle.network.specs.declared.Cap.the-variants.{AtMost}
 use Rattle.network.specs.declared.Cause.{Cause}
 use Rattle.network.specs.declared.Verdict.{Verdict}
 use Rattle.network.specs.declared.Verdict.the-variants.{Accepted, Refused as Refusal}
-use Rattle.network.specs.CaseSplit.{by-lt}
 use Rattle.network.specs.Network.{Network, network, mostNodes, mostArcs}
 use Rattle.network.specs.Query.{Query, query}
 use Rattle.network.specs.Refusal.{firstRefusal, badNodeCount, badArcLists, badPotentialLists, listRows, listVerdict, tripVerdict, mapVerdict, queryVerdict}
@@ -26,11 +25,9 @@ use Rattle.nba.specs.Search.{stateAt}
 use Rattle.nba.specs.Result.{pathOf, figuresIn, excess, foundAt, answerToAt, turnsGiven}
 use Rattle.search.specs.Tables.{atFront}
 use Rattle.search.specs.Promise.{LentLists, shownPath, listsAt, Left, left, searchLeavesAt}
-use Rattle.frames.specs.Frame.{mostDigits, frameOf, patternDigits, entriesOf, patternOf}
-use Rattle.frames.specs.FrameCases.{too-long}
-use Rattle.frames.specs.LineSteps.{length-entries}
-use Rattle.frames.specs.declared.Frame.{Frame}
-use Rattle.frames.specs.declared.Frame.the-variants.{Size, Arc, TwoWay, Potentials, Query as QueryFrame, Unsound}
+use Rattle.frames.specs.Frame.{patternOf}
+use Rattle.frames.specs.LineSteps.{pattern-short}
+use Rattle.frames.specs.declared.Frame.the-variants.{Query as QueryFrame}
 use Rattle.frames.specs.AnswerLines.{answerLine, pathLine, answerLines}
 use Rattle.frames.specs.Room.{laid, Laid, Placed}
 use Rattle.frames.specs.RoomLaws.{placed-laid}
@@ -113,23 +110,7 @@ known-by r l kept all =
       own-is = kept .judged ∙ with-all r _ _ _ _ _ all;
     }
 
-entries-short : (g : Frame) (ds : List ℕ) → length ds ≤ 255 → length (entriesOf g ds) ≤ 255
-entries-short (QueryFrame a b n) ds h = h
-entries-short (Size n m) ds h = omega arith
-entries-short (Arc t a w) ds h = omega arith
-entries-short (TwoWay t a w) ds h = omega arith
-entries-short (Potentials v a k) ds h = omega arith
-entries-short Unsound ds h = omega arith
-
--- a line's pattern has at most 255 entries
-pub pattern-short : (s : List ℕ) → length (patternOf s) ≤ 255
-unfolding patternOf
-pattern-short s =
-    by-lt mostDigits (length s)
-    (λ long. rw (← too-long s long) (omega arith))
-    (λ short. entries-short (frameOf s) (patternDigits s) (omega (arith, length-entries s)))
-
--- so a list of 255 entries takes it whole
+-- a line's pattern has at most 255 entries, so a list of 255 takes it whole
 pub pattern-whole : (s entries after : List ℕ) (n : ℕ) → length entries ≡ 255 → Placed (patternOf s) entries after n → Laid (patternOf s) entries after n
 pattern-whole s entries after n room p = placed-laid (patternOf s) entries after n (omega (arith, pattern-short s)) p
 
