@@ -1,23 +1,24 @@
--- An answer's lines determine the answer, and a route's lines its path: the values stand in them, each in its field. And how
--- many bytes they are. Assumes nothing.
+-- An answer's lines determine what they show of it, which is the whole of a route, of no route and of a refusal, and the path
+-- after it: the values stand in them, each in its field. And how many bytes they are. Assumes nothing.
 use mathlib.Core.Path.{_≡_, refl, sym, ap, _∙_}
 use mathlib.Core.Bool.{cond}
-use mathlib.Core.List.{List, [], _∷_, _++_, append-assoc}
-use Prim.Native.Nat.{ℕ, suc, _+_, _*_, _<_, _^_}
+use mathlib.Core.List.{List, [], _∷_, _++_, append-assoc, append-nil}
+use Prim.Native.Nat.{ℕ, suc, _+_, _*_, _/_, _<_, _^_}
 use native.Mathlib.Omega.{arith}
 use lib.Dec.{eqb}
-use lib.ListN.{length, take, replicate, length-append}
+use lib.ListN.{length, take, drop, replicate, getD, length-append}
+use lib.Seq.{drop-at}
 use Rattle.network.specs.Answer.{numberOf, placeOf, figuresOf, kindOf, valuesOf}
 use Rattle.network.specs.declared.Figures.{Figures}
 use Rattle.network.specs.declared.Cause.{Cause}
 use Rattle.network.specs.declared.Cause.the-variants.{NodeCount, ArcLists, PotentialLists, StartOrEnd, Pattern, Room, BadArc, BadPotential, Inconsistent, UnsoundLine, MisplacedLine}
 use Rattle.network.specs.declared.Answer.{Answer}
-use Rattle.network.specs.declared.Answer.the-variants.{Route, NoRoute, Refused}
+use Rattle.network.specs.declared.Answer.the-variants.{Route, NoRoute, Refused, Provisional, Undecided}
 use Rattle.frames.specs.Digits.{numberAt, digitsOf}
-use Rattle.frames.specs.FieldLaws.{fieldsAt, InFields, none, one, fields-roundtrip, length-digits}
+use Rattle.frames.specs.FieldLaws.{fieldsAt, total, InFields, none, one, fields-roundtrip, length-digits}
 use Rattle.frames.specs.LineSteps.{length-line, length-path}
 use Rattle.frames.specs.FrameLine.{Below}
-use Rattle.frames.specs.AnswerLines.{lineOf, routeWidths, widthsOf, answerLine, nodesLine, pathLine, answerLines}
+use Rattle.frames.specs.AnswerLines.{lineOf, widthsOf, answerLine, pathLine, answerLines}
 
 -- each figure is in the range of its type
 abbrev pub RangedFigures : Figures → Type 0
@@ -28,6 +29,8 @@ abbrev pub Ranged : Answer → Type 0
 Ranged (Route l n f) = (l < 4294967296) × (n < 65536) × RangedFigures f
 Ranged (NoRoute f) = RangedFigures f
 Ranged (Refused c) = placeOf c < 4294967296
+Ranged (Provisional l x n f) = (l < 4294967296) × (x < 4294967296)
+Ranged (Undecided f) = f .turns < 65536
 
 pub number-below-256 : (c : Cause) → numberOf c < 16 ^ 2
 number-below-256 NodeCount = omega arith
@@ -54,18 +57,47 @@ answer-fits : (a : Answer) → Ranged a → InFields (widthsOf a) (kindOf a ∷ 
 answer-fits (Route l n f) h = one 2 129 (omega arith) (one 8 l (omega arith) (one 4 n (omega arith) (figures-fit f (h .2))))
 answer-fits (NoRoute f) h = one 2 128 (omega arith) (figures-fit f h)
 answer-fits (Refused c) h = one 2 255 (omega arith) (one 2 (numberOf c) (number-below-256 c) (one 8 (placeOf c) (omega arith) none))
+answer-fits (Provisional l x n f) h = one 2 132 (omega arith) (one 8 l (omega arith) (one 8 x (omega arith) none))
+answer-fits (Undecided f) h = one 2 133 (omega arith) (one 4 (f .turns) (omega arith) none)
+
+-- what follows an answer's line: the line of the path that it shows, or nothing
+abbrev pub pathShown : Answer → List ℕ → List ℕ
+pathShown (Route l n f) p = take n p
+pathShown (NoRoute f) p = []
+pathShown (Refused c) p = []
+pathShown (Provisional l x n f) p = take n p
+pathShown (Undecided f) p = []
+
+abbrev afterLine : Answer → List ℕ → List ℕ
+afterLine (Route l n f) p = pathLine (take n p)
+afterLine (NoRoute f) p = []
+afterLine (Refused c) p = []
+afterLine (Provisional l x n f) p = pathLine (take n p)
+afterLine (Undecided f) p = []
+
+line-and-path : (a : Answer) (p : List ℕ) → answerLine a ++ afterLine a p ≡ answerLines a p
+line-and-path (Route l n f) p = refl
+line-and-path (NoRoute f) p = append-nil _
+line-and-path (Refused c) p = append-nil _
+line-and-path (Provisional l x n f) p = refl
+line-and-path (Undecided f) p = append-nil _
 
 -- an answer's kind and values stand in its lines
 answer-fields : (a : Answer) (p : List ℕ) → Ranged a → fieldsAt 0 (widthsOf a) (answerLines a p) ≡ kindOf a ∷ valuesOf a
 unfolding lineOf
-answer-fields (Route l n f) p h = rw append-assoc (fields-roundtrip [] 0 ((10 ∷ []) ++ pathLine (take n p)) refl (answer-fits (Route l n f) h))
-answer-fields (NoRoute f) p h = fields-roundtrip [] 0 (10 ∷ []) refl (answer-fits (NoRoute f) h)
-answer-fields (Refused c) p h = fields-roundtrip [] 0 (10 ∷ []) refl (answer-fits (Refused c) h)
+answer-fields a p h =
+    rw (← line-and-path a p, append-assoc) (fields-roundtrip [] 0 ((10 ∷ []) ++ afterLine a p) refl (answer-fits a h))
 
-answer-kind : (a : Answer) (p : List ℕ) → Ranged a → numberAt (answerLines a p) 0 2 ≡ kindOf a
-answer-kind (Route l n f) p h = let e = answer-fields (Route l n f) p h in cc
-answer-kind (NoRoute f) p h = let e = answer-fields (NoRoute f) p h in cc
-answer-kind (Refused c) p h = let e = answer-fields (Refused c) p h in cc
+kind-first : (a : Answer) (s : List ℕ) → fieldsAt 0 (widthsOf a) s ≡ kindOf a ∷ valuesOf a → numberAt s 0 2 ≡ kindOf a
+kind-first (Route l n f) s e = cc
+kind-first (NoRoute f) s e = cc
+kind-first (Refused c) s e = cc
+kind-first (Provisional l x n f) s e = cc
+kind-first (Undecided f) s e = cc
+
+-- figures from a list of them, 0 where it is too short
+abbrev figuresFrom : List ℕ → Figures
+figuresFrom vs = record { turns = getD vs 0 0; «opened_by_start» = getD vs 1 0; «opened_by_end» = getD vs 2 0; rejected = getD vs 3 0 }
 
 -- the refusal of a number and a place
 causeAt : ℕ → ℕ → Cause
@@ -95,88 +127,117 @@ cause-again (Inconsistent a) = refl
 cause-again (UnsoundLine n) = refl
 cause-again (MisplacedLine n) = refl
 
-cause-determined : (c d : Cause) → numberOf c ≡ numberOf d → placeOf c ≡ placeOf d → c ≡ d
-cause-determined c d n p = sym (cause-again c) ∙ rw (n, p) (cause-again d)
+-- what an answer's lines show of it: all, but a provisional's and an undecided's have no figures beyond the turns, and a
+-- provisional's nodes are those of its path
+abbrev pub shown : Answer → Answer
+shown (Route l n f) = Route l n f
+shown (NoRoute f) = NoRoute f
+shown (Refused c) = Refused c
+shown (Provisional l x n f) = Provisional l x 0 (figuresFrom [])
+shown (Undecided f) = Undecided (figuresFrom (f .turns ∷ []))
 
-figures-determined : (f g : Figures) → figuresOf f ≡ figuresOf g → f ≡ g
-figures-determined f g e =
-    let a : f .turns ≡ g .turns = cc in
-    let b : f .«opened_by_start» ≡ g .«opened_by_start» = cc in
-    let c : f .«opened_by_end» ≡ g .«opened_by_end» = cc in
-    let d : f .rejected ≡ g .rejected = cc in
-    λ i. record { turns = a i; «opened_by_start» = b i; «opened_by_end» = c i; rejected = d i }
+-- it is found again from the kind and the values
+answerFrom : ℕ → List ℕ → Answer
+answerFrom k vs =
+    cond (eqb k 129) (Route (getD vs 0 0) (getD vs 1 0) (figuresFrom (drop 2 vs)))
+    (cond (eqb k 128) (NoRoute (figuresFrom vs))
+    (cond (eqb k 132) (Provisional (getD vs 0 0) (getD vs 1 0) 0 (figuresFrom []))
+    (cond (eqb k 133) (Undecided (figuresFrom vs)) (Refused (causeAt (getD vs 0 0) (getD vs 1 0))))))
 
--- the same kind and the same values are the same answer
-values-determine : (a b : Answer) → kindOf a ≡ kindOf b → valuesOf a ≡ valuesOf b → a ≡ b
-values-determine (Route l n f) (Route k m g) e v =
-    let first : l ≡ k = cc in
-    let second : n ≡ m = cc in
-    let others : figuresOf f ≡ figuresOf g = cc in
-    rw (first, second, figures-determined f g others)
-values-determine (NoRoute f) (NoRoute g) e v = ap NoRoute (figures-determined f g v)
-values-determine (Refused c) (Refused d) e v =
-    let number : numberOf c ≡ numberOf d = cc in
-    let place : placeOf c ≡ placeOf d = cc in
-    ap Refused (cause-determined c d number place)
-values-determine (Route l n f) (NoRoute g) e v = absurd (omega arith)
-values-determine (Route l n f) (Refused d) e v = absurd (omega arith)
-values-determine (NoRoute f) (Route k m g) e v = absurd (omega arith)
-values-determine (NoRoute f) (Refused d) e v = absurd (omega arith)
-values-determine (Refused c) (Route k m g) e v = absurd (omega arith)
-values-determine (Refused c) (NoRoute g) e v = absurd (omega arith)
+answer-again : (a : Answer) → answerFrom (kindOf a) (valuesOf a) ≡ shown a
+unfolding answerFrom
+answer-again (Route l n f) = refl
+answer-again (NoRoute f) = refl
+answer-again (Refused c) = ap Refused (cause-again c)
+answer-again (Provisional l x n f) = refl
+answer-again (Undecided f) = refl
 
--- the same kind has the same widths
-same-widths : (a b : Answer) → kindOf a ≡ kindOf b → widthsOf a ≡ widthsOf b
-same-widths (Route l n f) (Route k m g) e = refl
-same-widths (NoRoute f) (NoRoute g) e = refl
-same-widths (Refused c) (Refused d) e = refl
-same-widths (Route l n f) (NoRoute g) e = absurd (omega arith)
-same-widths (Route l n f) (Refused d) e = absurd (omega arith)
-same-widths (NoRoute f) (Route k m g) e = absurd (omega arith)
-same-widths (NoRoute f) (Refused d) e = absurd (omega arith)
-same-widths (Refused c) (Route k m g) e = absurd (omega arith)
-same-widths (Refused c) (NoRoute g) e = absurd (omega arith)
+-- and the widths of its fields from the kind
+widthsFrom : ℕ → List ℕ
+widthsFrom k =
+    cond (eqb k 129) (2 ∷ 8 ∷ 4 ∷ 4 ∷ 4 ∷ 4 ∷ 4 ∷ [])
+    (cond (eqb k 128) (2 ∷ 4 ∷ 4 ∷ 4 ∷ 4 ∷ [])
+    (cond (eqb k 132) (2 ∷ 8 ∷ 8 ∷ [])
+    (cond (eqb k 133) (2 ∷ 4 ∷ []) (2 ∷ 2 ∷ 8 ∷ []))))
 
--- two answers with the same lines are the same answer
-pub answer-determined : (a b : Answer) (p q : List ℕ) → Ranged a → Ranged b → answerLines a p ≡ answerLines b q → a ≡ b
-answer-determined a b p q h k e =
-    let kind : kindOf a ≡ kindOf b = sym (answer-kind a p h) ∙ (ap (λ (s : List ℕ). numberAt s 0 2) e ∙ answer-kind b q k) in
-    let fields : fieldsAt 0 (widthsOf a) (answerLines a p) ≡ fieldsAt 0 (widthsOf b) (answerLines b q) = rw (same-widths a b kind, e) in
-    let both : _≡_ {A = List ℕ} (kindOf a ∷ valuesOf a) (kindOf b ∷ valuesOf b) = sym (answer-fields a p h) ∙ (fields ∙ answer-fields b q k) in
-    let values : valuesOf a ≡ valuesOf b = cc in
-    values-determine a b kind values
+widths-again : (a : Answer) → widthsFrom (kindOf a) ≡ widthsOf a
+unfolding widthsFrom
+widths-again (Route l n f) = refl
+widths-again (NoRoute f) = refl
+widths-again (Refused c) = refl
+widths-again (Provisional l x n f) = refl
+widths-again (Undecided f) = refl
 
--- the bytes of an answer's lines: 13 for a refusal, 19 for no route, 34 and four a node for a route
+-- two answers with the same lines
+module _ (a b : Answer) (p q : List ℕ) (h : Ranged a) (k : Ranged b) (e : answerLines a p ≡ answerLines b q) where
+  same-kind : kindOf a ≡ kindOf b
+  same-kind = sym (kind-first a _ (answer-fields a p h)) ∙ (ap (λ (s : List ℕ). numberAt s 0 2) e ∙ kind-first b _ (answer-fields b q k))
+
+  same-widths : widthsOf a ≡ widthsOf b
+  same-widths = sym (widths-again a) ∙ (ap widthsFrom same-kind ∙ widths-again b)
+
+  -- show the same, so they are the same answer where it is shown whole
+  pub answer-determined : shown a ≡ shown b
+  answer-determined =
+      let fields : fieldsAt 0 (widthsOf a) (answerLines a p) ≡ fieldsAt 0 (widthsOf b) (answerLines b q) = rw (same-widths, e) in
+      let both : _≡_ {A = List ℕ} (kindOf a ∷ valuesOf a) (kindOf b ∷ valuesOf b) = sym (answer-fields a p h) ∙ (fields ∙ answer-fields b q k) in
+      let values : valuesOf a ≡ valuesOf b = cc in
+      sym (answer-again a) ∙ (rw (same-kind, values) (answer-again b))
+
+-- the bytes of an answer's lines: 13 for a refusal, 19 for no route, 7 for an undecided query, 34 and four a node for a route,
+-- 22 and four a node for a provisional one
+length-first : (a : Answer) → length (answerLine a) ≡ total (widthsOf a) + 1
+length-first (Route l n f) = length-line _ _ refl
+length-first (NoRoute f) = length-line _ _ refl
+length-first (Refused c) = length-line _ _ refl
+length-first (Provisional l x n f) = length-line _ _ refl
+length-first (Undecided f) = length-line _ _ refl
+
 pub length-refused : (c : Cause) (p : List ℕ) → length (answerLines (Refused c) p) ≡ 13
-length-refused c p = length-line (widthsOf (Refused c)) (255 ∷ numberOf c ∷ placeOf c ∷ []) refl
+length-refused c p = length-first (Refused c)
 
 pub length-no-route : (f : Figures) (p : List ℕ) → length (answerLines (NoRoute f) p) ≡ 19
-length-no-route f p = length-line (widthsOf (NoRoute f)) (128 ∷ figuresOf f) refl
+length-no-route f p = length-first (NoRoute f)
+
+pub length-undecided : (f : Figures) (p : List ℕ) → length (answerLines (Undecided f) p) ≡ 7
+length-undecided f p = length-first (Undecided f)
 
 pub length-route : (l n : ℕ) (f : Figures) (p : List ℕ) → length (answerLines (Route l n f) p) ≡ 34 + 4 * length (take n p)
 length-route l n f p =
-    let first : length (lineOf routeWidths (129 ∷ l ∷ n ∷ figuresOf f)) ≡ 31 = length-line routeWidths (129 ∷ l ∷ n ∷ figuresOf f) refl in
-    length-append (answerLine (Route l n f)) (pathLine (take n p)) ∙ omega (arith, first, length-path (take n p))
+    length-append (answerLine (Route l n f)) (pathLine (take n p)) ∙ omega (arith, length-first (Route l n f), length-path (take n p))
+
+pub length-provisional : (l x n : ℕ) (f : Figures) (p : List ℕ) → length (answerLines (Provisional l x n f) p) ≡ 22 + 4 * length (take n p)
+length-provisional l x n f p =
+    length-append (answerLine (Provisional l x n f)) (pathLine (take n p)) ∙ omega (arith, length-first (Provisional l x n f), length-path (take n p))
 
 -- nodes that fit their fields
 nodes-fit : (ns : List ℕ) → Below 65536 ns → InFields (replicate (length ns) 4) ns
 nodes-fit [] h = none
 nodes-fit (v ∷ ns) h = one 4 v (h .law 0 (omega arith)) (nodes-fit ns (record { law = λ i k. h .law (suc i) (omega arith) }))
 
--- a path's nodes stand after the 31 bytes of the route's line and the two of the path's kind
-path-fields : (l n : ℕ) (f : Figures) (p : List ℕ) → Below 65536 (take n p) → fieldsAt 33 (replicate (length (take n p)) 4) (answerLines (Route l n f) p) ≡ take n p
-unfolding lineOf
-path-fields l n f p h =
-    let ns : List ℕ = take n p in
-    let front : List ℕ = lineOf routeWidths (129 ∷ l ∷ n ∷ figuresOf f) in
-    let first : length (lineOf routeWidths (129 ∷ l ∷ n ∷ figuresOf f)) ≡ 31 = length-line routeWidths (129 ∷ l ∷ n ∷ figuresOf f) refl in
-    let at : length (front ++ digitsOf 2 130) ≡ 33 = length-append front (digitsOf 2 130) ∙ omega (arith, first, length-digits 2 130) in
-    ap (λ (s : List ℕ). fieldsAt 33 (replicate (length ns) 4) s) (sym (append-assoc front (digitsOf 2 130) (nodesLine ns))) ∙ fields-roundtrip (front ++ digitsOf 2 130) 33 (10 ∷ []) at (nodes-fit ns h)
+-- the path in what follows an answer's line: its nodes stand after the two digits of the kind, if there are any
+pathIn : List ℕ → List ℕ
+pathIn s = fieldsAt 2 (replicate (length s / 4) 4) s
 
--- two routes with the same lines have the same path
-pub path-determined : (l n : ℕ) (f : Figures) (p q : List ℕ) → Below 65536 (take n p) → Below 65536 (take n q) → answerLines (Route l n f) p ≡ answerLines (Route l n f) q → take n p ≡ take n q
-path-determined l n f p q h k e =
-    let same : length (take n p) ≡ length (take n q) = omega (arith, length-route l n f p, length-route l n f q, ap length e) in
-    let widths = ap (λ (m : ℕ). fieldsAt 33 (replicate m 4) (answerLines (Route l n f) p)) same in
-    let lines = ap (λ (s : List ℕ). fieldsAt 33 (replicate (length (take n q)) 4) s) e in
-    sym (path-fields l n f p h) ∙ (widths ∙ (lines ∙ path-fields l n f q k))
+path-in-line : (ns : List ℕ) → Below 65536 ns → pathIn (pathLine ns) ≡ ns
+unfolding pathIn lineOf
+path-in-line ns h =
+    let count : length (pathLine ns) / 4 ≡ length ns = omega (arith, length-path ns) in
+    rw count (fields-roundtrip (digitsOf 2 130) 2 (10 ∷ []) (length-digits 2 130) (nodes-fit ns h))
+
+path-again : (a : Answer) (p : List ℕ) → Below 65536 (pathShown a p) → pathIn (afterLine a p) ≡ pathShown a p
+unfolding pathIn
+path-again (Route l n f) p h = path-in-line (take n p) h
+path-again (NoRoute f) p h = refl
+path-again (Refused c) p h = refl
+path-again (Provisional l x n f) p h = path-in-line (take n p) h
+path-again (Undecided f) p h = refl
+
+after-line : (a : Answer) (p : List ℕ) → drop (total (widthsOf a) + 1) (answerLines a p) ≡ afterLine a p
+after-line a p = rw (← line-and-path a p) (drop-at (answerLine a) (afterLine a p) (total (widthsOf a) + 1) (length-first a))
+
+-- two answers with the same lines show the same path
+pub path-determined : (a b : Answer) (p q : List ℕ) → Ranged a → Ranged b → Below 65536 (pathShown a p) → Below 65536 (pathShown b q) → answerLines a p ≡ answerLines b q → pathShown a p ≡ pathShown b q
+path-determined a b p q h k below below′ e =
+    let after : afterLine a p ≡ afterLine b q = sym (after-line a p) ∙ (rw (same-widths a b p q h k e, e) (after-line b q)) in
+    sym (path-again a p below) ∙ (ap pathIn after ∙ path-again b q below′)

@@ -6,13 +6,14 @@ use Prim.Native.Nat.{ℕ}
 use Prim.Native.Char.{code}
 use Prim.Native.String.{String, [] as none, _∷_ as _then_}
 use lib.IntN.{pos, negℤ}
+use Rattle.network.specs.declared.Cap.the-variants.{Uncapped, AtMost}
 use Rattle.network.specs.declared.Figures.{Figures}
 use Rattle.network.specs.declared.Cause.the-variants.{NodeCount, ArcLists, PotentialLists, StartOrEnd, Pattern, Room, BadArc, BadPotential, Inconsistent, UnsoundLine, MisplacedLine}
 use Rattle.network.specs.declared.Answer.{Answer}
-use Rattle.network.specs.declared.Answer.the-variants.{Route, NoRoute, Refused}
+use Rattle.network.specs.declared.Answer.the-variants.{Route, NoRoute, Refused, Provisional, Undecided}
 use Rattle.frames.specs.Digits.{digitOf, valueOf, areDigits, numberFrom, numberAt, digitsOf, spelled}
 use Rattle.frames.specs.Signed.{signedOf}
-use Rattle.frames.specs.Frame.{sizeOf, arcOf, potentialsOf, queryOf, ofKind, frameOf, patternDigits, patternOf}
+use Rattle.frames.specs.Frame.{sizeOf, arcOf, potentialsOf, queryOf, cappedOf, ofKind, frameOf, entriesFrom, patternOf}
 use Rattle.frames.specs.AnswerLines.{lineFeed, lineOf, answerLines}
 use Rattle.frames.specs.declared.Frame.{Frame}
 use Rattle.frames.specs.declared.Frame.the-variants.{Size, Arc, TwoWay, Potentials, Query, Unsound}
@@ -47,9 +48,9 @@ sound-lines =
     ∷ spells "03000085FD42407A02BDC0" (Potentials 0 (negℤ (pos 2047000000)) (pos 2047000000)) []
     ∷ spells "0307FFFFFFFFFF00000000" (Potentials 2047 (negℤ (pos 1)) (pos 0)) []
     -- 04: the query of D5; no entries and entry F, which the refusal table tests: who refuses them here
-    ∷ spells "04000000030201" (Query 0 3 2) (0 ∷ 1 ∷ [])
-    ∷ spells "040000000300" (Query 0 3 0) []
-    ∷ spells "0400000003020F" (Query 0 3 2) (0 ∷ 15 ∷ [])
+    ∷ spells "04000000030201" (Query 0 3 Uncapped 2) (0 ∷ 1 ∷ [])
+    ∷ spells "040000000300" (Query 0 3 Uncapped 0) []
+    ∷ spells "0400000003020F" (Query 0 3 Uncapped 2) (0 ∷ 15 ∷ [])
     ∷ []
 
 abbrev unsound-lines : List Line
@@ -147,7 +148,7 @@ write c = record { answer = c .answer; path = c .path; lines = answerLines (c .a
 -- ---- the proofs, by computation
 -- every line spells its frame and its pattern
 pub lines-read : map read line-cases ≡ line-cases
-unfolding read patternOf patternDigits frameOf ofKind sizeOf arcOf potentialsOf queryOf signedOf numberAt numberFrom areDigits valueOf
+unfolding read patternOf entriesFrom frameOf ofKind sizeOf arcOf potentialsOf queryOf cappedOf signedOf numberAt numberFrom areDigits valueOf
 lines-read = refl
 
 -- and every answer has its lines

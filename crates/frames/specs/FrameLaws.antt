@@ -11,13 +11,14 @@ use lib.Signed.{mag}
 use lib.ListN.{length, take, drop, length-append, length-map, take-append-drop, drop-of-length-le}
 use lib.Seq.{drop-at}
 use borrow.Author.Tests.{ltb-true, eq-eqb}
+use Rattle.network.specs.declared.Cap.the-variants.{Uncapped, AtMost}
 use Rattle.frames.specs.Digits.{digitOf, valueOf, areDigits, numberAt, spelled}
 use Rattle.frames.specs.DigitLaws.{value-of-digit, digit-of-value}
 use Rattle.frames.specs.Signed.{signedOf, bitsOf}
 use Rattle.frames.specs.SignedLaws.{signed-of-bits, bits-of-signed}
 use Rattle.frames.specs.FieldSteps.{first-is, others-are}
 use Rattle.frames.specs.FieldLaws.{digits-++, digits-drop, digit-is-digit, byte-of-value, number-below, fieldsAt, total, InFields, none, one, length-spelled, spelled-digits, fields-roundtrip, fields-rewritten}
-use Rattle.frames.specs.Frame.{sizeOf, arcFrame, arcOf, potentialsOf, queryOf, ofKind, frameOf, patternDigits, entriesOf, patternOf}
+use Rattle.frames.specs.Frame.{sizeOf, arcFrame, arcOf, potentialsOf, queryOf, cappedOf, ofKind, frameOf, digitsBefore, entriesFrom, entriesOf, patternOf}
 use Rattle.frames.specs.FrameCases.{frame-cases, by-kind}
 use Rattle.frames.specs.FrameLine.{frameLine, Below, Spellable}
 use Rattle.frames.specs.declared.Frame.{Frame}
@@ -128,14 +129,14 @@ potentials-roundtrip n h k p ok =
     ∙ rw (eq-eqb _ _ size, node, forward, backward, signed-of-bits h (ok .1), signed-of-bits k (ok .2))
 
 -- a query's fields, and that they fit
-query-fits : (a b n : ℕ) (p : List ℕ) → Spellable (Query a b n) p → InFields (2 ∷ 4 ∷ 4 ∷ 2 ∷ []) (4 ∷ a ∷ b ∷ n ∷ [])
+query-fits : (a b n : ℕ) (p : List ℕ) → Spellable (Query a b Uncapped n) p → InFields (2 ∷ 4 ∷ 4 ∷ 2 ∷ []) (4 ∷ a ∷ b ∷ n ∷ [])
 query-fits a b n p ok = one 2 4 (omega arith) (one 4 a (omega arith) (one 4 b (omega arith) (one 2 n (omega arith) none)))
 
-query-roundtrip : (a b n : ℕ) (p : List ℕ) → Spellable (Query a b n) p → frameOf (frameLine (Query a b n) p) ≡ Query a b n
+query-roundtrip : (a b n : ℕ) (p : List ℕ) → Spellable (Query a b Uncapped n) p → frameOf (frameLine (Query a b Uncapped n) p) ≡ Query a b Uncapped n
 unfolding frameLine ofKind queryOf
 query-roundtrip a b n p ok =
     let inside : InFields (2 ∷ 4 ∷ 4 ∷ 2 ∷ []) (4 ∷ a ∷ b ∷ n ∷ []) = query-fits a b n p ok in
-    let s = frameLine (Query a b n) p in
+    let s = frameLine (Query a b Uncapped n) p in
     let fields : fieldsAt 0 (2 ∷ 4 ∷ 4 ∷ 2 ∷ []) s ≡ 4 ∷ a ∷ b ∷ n ∷ [] = line-fields inside p (ok .4) in
     let kind : numberAt s 0 2 ≡ 4 = cc in
     let start : numberAt s 2 4 ≡ a = cc in
@@ -144,6 +145,26 @@ query-roundtrip a b n p ok =
     let size : length s ≡ 12 + numberAt s 10 2 = line-length inside p (ok .4) ∙ omega (arith, ok .3) in
     sym (by-kind s 4 (line-digits inside p (ok .4)) kind) ∙ rw (eq-eqb _ _ size, start, end, entries)
 
+-- the same with a cap
+capped-fits : (a b c n : ℕ) (p : List ℕ) → Spellable (Query a b (AtMost c) n) p → InFields (2 ∷ 4 ∷ 4 ∷ 4 ∷ 2 ∷ []) (7 ∷ a ∷ b ∷ c ∷ n ∷ [])
+capped-fits a b c n p ok =
+    one 2 7 (omega arith)
+    (one 4 a (omega arith) (one 4 b (omega arith) (one 4 c (omega arith) (one 2 n (omega arith) none))))
+
+capped-roundtrip : (a b c n : ℕ) (p : List ℕ) → Spellable (Query a b (AtMost c) n) p → frameOf (frameLine (Query a b (AtMost c) n) p) ≡ Query a b (AtMost c) n
+unfolding frameLine ofKind cappedOf
+capped-roundtrip a b c n p ok =
+    let inside : InFields (2 ∷ 4 ∷ 4 ∷ 4 ∷ 2 ∷ []) (7 ∷ a ∷ b ∷ c ∷ n ∷ []) = capped-fits a b c n p ok in
+    let s = frameLine (Query a b (AtMost c) n) p in
+    let fields : fieldsAt 0 (2 ∷ 4 ∷ 4 ∷ 4 ∷ 2 ∷ []) s ≡ 7 ∷ a ∷ b ∷ c ∷ n ∷ [] = line-fields inside p (ok .5) in
+    let kind : numberAt s 0 2 ≡ 7 = cc in
+    let start : numberAt s 2 4 ≡ a = cc in
+    let end : numberAt s 6 4 ≡ b = cc in
+    let cap : numberAt s 10 4 ≡ c = cc in
+    let entries : numberAt s 14 2 ≡ n = cc in
+    let size : length s ≡ 16 + numberAt s 14 2 = line-length inside p (ok .5) ∙ omega (arith, ok .4) in
+    sym (by-kind s 7 (line-digits inside p (ok .5)) kind) ∙ rw (eq-eqb _ _ size, start, end, cap, entries)
+
 -- each frame written out and decoded is the same frame
 pub frame-roundtrip : (f : Frame) (p : List ℕ) → Spellable f p → frameOf (frameLine f p) ≡ f
 unfolding frameLine
@@ -151,27 +172,28 @@ frame-roundtrip (Size n m) p ok = size-roundtrip n m p ok
 frame-roundtrip (Arc t h w) p ok = arc-roundtrip false t h w p ok
 frame-roundtrip (TwoWay t h w) p ok = arc-roundtrip true t h w p ok
 frame-roundtrip (Potentials n h k) p ok = potentials-roundtrip n h k p ok
-frame-roundtrip (Query a b n) p ok = query-roundtrip a b n p ok
+frame-roundtrip (Query a b Uncapped n) p ok = query-roundtrip a b n p ok
+frame-roundtrip (Query a b (AtMost c) n) p ok = capped-roundtrip a b c n p ok
 frame-roundtrip Unsound p ok = absurd ok
 
 -- the digits after a query's fields are its entries
-query-entries : (a b n : ℕ) (p : List ℕ) → Spellable (Query a b n) p → map valueOf (drop 12 (frameLine (Query a b n) p)) ≡ p
-unfolding frameLine
-query-entries a b n p ok =
-    rw (drop-at (spelled (2 ∷ 4 ∷ 4 ∷ 2 ∷ []) (4 ∷ a ∷ b ∷ n ∷ [])) (map digitOf p) 12 (length-spelled (query-fits a b n p ok)))
-    (entries-roundtrip p (ok .4))
+fields-entries : {ws vs : List ℕ} (p : List ℕ) → InFields ws vs → Below 16 p → entriesFrom (total ws) (spelled ws vs ++ map digitOf p) ≡ p
+unfolding entriesFrom
+fields-entries {ws} {vs} p inside b = rw (drop-at (spelled ws vs) (map digitOf p) (total ws) (length-spelled inside)) (entries-roundtrip p b)
 
-entries-again : (f : Frame) (p : List ℕ) → Spellable f p → entriesOf f (map valueOf (drop 12 (frameLine f p))) ≡ p
+entries-again : (f : Frame) (p : List ℕ) → Spellable f p → entriesOf f (frameLine f p) ≡ p
+unfolding frameLine
 entries-again (Size n m) p h = sym (h .2)
 entries-again (Arc t a w) p h = sym (h .3)
 entries-again (TwoWay t a w) p h = sym (h .3)
 entries-again (Potentials n a k) p h = sym (h .3)
-entries-again (Query a b n) p h = query-entries a b n p h
+entries-again (Query a b Uncapped n) p h = fields-entries p (query-fits a b n p h) (h .4)
+entries-again (Query a b (AtMost c) n) p h = fields-entries p (capped-fits a b c n p h) (h .5)
 entries-again Unsound p h = absurd h
 
 -- and its pattern is the same pattern
 pub pattern-roundtrip : (f : Frame) (p : List ℕ) → Spellable f p → patternOf (frameLine f p) ≡ p
-unfolding patternOf patternDigits
+unfolding patternOf
 pattern-roundtrip f p h = rw (frame-roundtrip f p h) (entries-again f p h)
 
 -- a line's kind and fields, and the digits after them, written again
@@ -190,9 +212,9 @@ module _ (s : List ℕ) (ws : List ℕ) (kind : ℕ) (d : areDigits s ≡ true) 
 
 -- a sound line is the line of its frame and its pattern
 pub line-rewritten : (s : List ℕ) → (frameOf s ≡ Unsound → ⊥) → frameLine (frameOf s) (patternOf s) ≡ s
-unfolding patternOf patternDigits frameLine
+unfolding patternOf entriesFrom frameLine
 line-rewritten s =
-    frame-cases s (λ (f : Frame). (f ≡ Unsound → ⊥) → frameLine f (entriesOf f (patternDigits s)) ≡ s)
+    frame-cases s (λ (f : Frame). (f ≡ Unsound → ⊥) → frameLine f (entriesOf f s) ≡ s)
     (λ h. absurd (h refl))
     (λ d k l h. fields-only s (4 ∷ 4 ∷ []) 1 d k l)
     (λ d k l h. fields-only s (4 ∷ 4 ∷ 8 ∷ []) 2 d k l)
@@ -202,6 +224,7 @@ line-rewritten s =
     let backward : bitsOf (signedOf (numberAt s 14 8)) ≡ numberAt s 14 8 = bits-of-signed _ (number-below s 14 8 d (omega arith)) in
     rw (forward, backward) (fields-only s (4 ∷ 8 ∷ 8 ∷ []) 3 d k l))
     (λ d k l h. digits-rewritten s (4 ∷ 4 ∷ 2 ∷ []) 4 d k (omega arith))
+    (λ d k l h. digits-rewritten s (4 ∷ 4 ∷ 4 ∷ 2 ∷ []) 7 d k (omega arith))
 
 -- two sound lines with the same frame and the same pattern are the same line
 pub line-determined : (s t : List ℕ) → (frameOf s ≡ Unsound → ⊥) → frameOf s ≡ frameOf t → patternOf s ≡ patternOf t → s ≡ t

@@ -6,12 +6,14 @@ use native.Mathlib.Omega.{arith}
 use native.Mathlib.Numerals.{add-one}
 use lib.ListN.{length, getD, take, drop, replicate, length-append, length-drop, length-map, length-replicate, drop-of-length-le}
 use lib.Seq.{drop-cons}
+use Rattle.network.specs.declared.Cap.{Cap}
 use Rattle.frames.specs.Digits.{valueOf, digitsOf, spelled}
-use Rattle.frames.specs.FieldLaws.{length-digits, total}
+use Rattle.frames.specs.FieldLaws.{length-digits, number-below, total}
 use Rattle.frames.specs.Room.{laid}
 use Rattle.frames.specs.RoomLaws.{Underway, underway-more}
-use Rattle.frames.specs.Frame.{frameOf, patternDigits, patternOf}
-use Rattle.frames.specs.FrameCases.{query-length}
+use Rattle.frames.specs.Frame.{frameOf, digitsBefore, entriesFrom, entriesOf, patternOf}
+use Rattle.frames.specs.FrameCases.{frame-cases, query-length}
+use Rattle.frames.specs.declared.Frame.{Frame}
 use Rattle.frames.specs.declared.Frame.the-variants.{Query}
 use Rattle.frames.specs.AnswerLines.{lineFeed, lineOf, nodesLine, pathLine}
 
@@ -62,27 +64,41 @@ length-path nodes =
     let same : length {A = ℕ} (replicate (length nodes) 4) ≡ length nodes = length-replicate {A = ℕ} (length nodes) 4 in
     length-append (digitsOf 2 130) (nodesLine nodes) ∙ omega (arith, length-digits 2 130, length-line (replicate (length nodes) 4) nodes same, total-fours (length nodes))
 
--- the entries of a pattern that are left
-abbrev pub entriesLeft : List ℕ → ℕ → List ℕ
-entriesLeft s i = map valueOf (drop (12 + i) s)
+-- the entries that are left of those from a place on
+pub entries-more : (at : ℕ) (s : List ℕ) (i : ℕ) → at + i < length s → entriesFrom (at + i) s ≡ valueOf (getD s (at + i) 0) ∷ entriesFrom (at + (i + 1)) s
+unfolding entriesFrom
+entries-more at s i h =
+    let next : at + (i + 1) ≡ suc (at + i) = omega arith in
+    rw (next, drop-cons s (at + i) 0)
 
-pub entries-more : (s : List ℕ) (i : ℕ) → 12 + i < length s → entriesLeft s i ≡ valueOf (getD s (12 + i) 0) ∷ entriesLeft s (i + 1)
-entries-more s i h =
-    let next : 12 + (i + 1) ≡ suc (12 + i) = omega arith in
-    rw (next, drop-cons s (12 + i) 0)
+pub entries-all-read : (at : ℕ) (s : List ℕ) → length s ≤ at → entriesFrom at s ≡ []
+unfolding entriesFrom
+entries-all-read at s h = rw (drop-of-length-le s h)
 
-pub entries-all-read : (s : List ℕ) (i : ℕ) → length s ≤ 12 + i → entriesLeft s i ≡ []
-entries-all-read s i h = rw (drop-of-length-le s h)
+pub length-entries : (at : ℕ) (s : List ℕ) → length (entriesFrom at s) ≡ length s - at
+unfolding entriesFrom
+length-entries at s = simp (length-map, length-drop)
 
-pub length-entries : (s : List ℕ) → length (patternDigits s) ≡ length s - 12
-unfolding patternDigits
-length-entries s = simp (length-map, length-drop)
-
--- the pattern of a query's line
-module _ (s : List ℕ) {a b n : ℕ} (e : frameOf s ≡ Query a b n) where
-  pub query-pattern : patternDigits s ≡ patternOf s
+-- the pattern of a query's line: its last digits, as many as its length says
+module _ (s : List ℕ) {a b n : ℕ} {cap : Cap} (e : frameOf s ≡ Query a b cap n) where
+  pub query-pattern : entriesFrom (length s - n) s ≡ patternOf s
   unfolding patternOf
-  query-pattern = rw e
+  query-pattern =
+      let at : length s - n ≡ digitsBefore cap = omega (arith, query-length s e) in
+      rw (e, at)
 
-  pub length-pattern : length (patternDigits s) ≡ n
-  length-pattern = omega (arith, length-entries s, query-length s e)
+  pub length-pattern : length (entriesFrom (length s - n) s) ≡ n
+  length-pattern = omega (arith, length-entries (length s - n) s, query-length s e)
+
+-- a line's pattern has at most as many entries as two digits can say
+pub pattern-short : (s : List ℕ) → length (patternOf s) ≤ 255
+unfolding patternOf
+pattern-short s =
+    frame-cases s (λ (f : Frame). length (entriesOf f s) ≤ 255)
+    (omega arith)
+    (λ d k l. omega arith)
+    (λ d k l. omega arith)
+    (λ d k l. omega arith)
+    (λ d k l. omega arith)
+    (λ d k l. omega (arith, length-entries 12 s, number-below s 10 2 d (omega arith)))
+    (λ d k l. omega (arith, length-entries 16 s, number-below s 14 2 d (omega arith)))

@@ -4,13 +4,13 @@
 ghost use mathlib.Core.Path.{_≡_};
 ghost use Prim.Native.Nat.{_<_, _≤_, _+_, _^_};
 ghost use mathlib.Core.List.{_++_};
-ghost use lib.ListN.{length};
+ghost use lib.ListN.{length, take};
 ghost use Rattle.network.specs.Answer.{numberOf, placeOf};
 ghost use Rattle.frames.specs.Digits.{digitOf, valueOf, valueTable, areDigits, Readable, numberAt, digitsOf};
 ghost use Rattle.frames.specs.Signed.{signedOf};
-ghost use Rattle.frames.specs.Frame.{patternDigits, sizeOf, arcOf, potentialsOf, queryOf, frameOf, patternOf};
+ghost use Rattle.frames.specs.Frame.{sizeOf, arcOf, potentialsOf, queryOf, cappedOf, frameOf, entriesFrom, patternOf};
 ghost use Rattle.frames.specs.Room.{laid, Laid, Placed};
-ghost use Rattle.frames.specs.AnswerLines.{lineOf, routeWidths, nodesLine, pathLine, answerLine, answerLines};
+ghost use Rattle.frames.specs.AnswerLines.{lineOf, nodesLine, pathLine, answerLine, answerLines};
 use network::Answer;
 use network::Cap;
 use network::Cause;
@@ -38,11 +38,14 @@ const POTENTIALS_DIGITS: usize = 2 + 4 + 8 + 8;
 // The digits of a query frame, 04, before its entries.
 const QUERY_DIGITS: usize = 2 + 4 + 4 + 2;
 
+// The digits of a capped query frame, 07, before its entries.
+const CAPPED_DIGITS: usize = 2 + 4 + 4 + 4 + 2;
+
 // The most entries that a query's line can carry: as many as two digits can say.
 pub const MOST_PATTERN: usize = 255;
 
-// The most digits that an input frame can have: a query with that many entries.
-pub const MOST_DIGITS: usize = QUERY_DIGITS + MOST_PATTERN;
+// The most digits that an input frame can have: a capped query with that many entries.
+pub const MOST_DIGITS: usize = CAPPED_DIGITS + MOST_PATTERN;
 
 const LINE_FEED: u8 = 10;
 
@@ -66,6 +69,20 @@ const NO_ROUTE_KIND: u32 = 0x80;
 const NO_ROUTE_WIDTHS: [usize; 5] = [2, 4, 4, 4, 4];
 
 const NO_ROUTE_BYTES: usize = 2 + 4 + 4 + 4 + 4 + 1;
+
+// A provisional route's line: as a route's.
+const PROVISIONAL_KIND: u32 = 0x84;
+
+const PROVISIONAL_WIDTHS: [usize; 3] = [2, 8, 8];
+
+const PROVISIONAL_BYTES: usize = 2 + 8 + 8 + 1;
+
+// The line of an undecided query: as a route's.
+const UNDECIDED_KIND: u32 = 0x85;
+
+const UNDECIDED_WIDTHS: [usize; 2] = [2, 4];
+
+const UNDECIDED_BYTES: usize = 2 + 4 + 1;
 
 // A refusal's line: as a route's.
 const REFUSAL_KIND: u32 = 0xFF;
@@ -224,6 +241,30 @@ fn query_frame(table: &[u8; 256], line: &[u8]) -> Frame
     Frame::Query {
         start,
         end,
+        cap: Cap::Uncapped,
+        entries: entries as u8,
+    }
+}
+
+// A line of kind 07: as 04, with a cap before the pattern's length.
+fn capped_frame(table: &[u8; 256], line: &[u8]) -> Frame
+    requires { ⌜ Readable (now table) (now line) ⌝ }
+    ensures { λ r. ⌜ r ≡ cappedOf (now (line .entry)) ⌝ }
+{
+    if line.len() < CAPPED_DIGITS {
+        return Frame::Unsound;
+    }
+    let entries = number(table, line, 14, 2);
+    if line.len() - CAPPED_DIGITS != entries as usize {
+        return Frame::Unsound;
+    }
+    let start = number(table, line, 2, 4) as u16;
+    let end = number(table, line, 6, 4) as u16;
+    let cap = number(table, line, 10, 4) as u16;
+    Frame::Query {
+        start,
+        end,
+        cap: Cap::AtMost(cap),
         entries: entries as u8,
     }
 }
@@ -240,6 +281,7 @@ fn frame_in(table: &[u8; 256], line: &[u8]) -> Frame
             3 => potentials_frame(table, line),
             4 => query_frame(table, line),
             5 => arc_frame(table, line, true),
+            7 => capped_frame(table, line),
             _ => Frame::Unsound,
         };
     }
@@ -247,7 +289,7 @@ fn frame_in(table: &[u8; 256], line: &[u8]) -> Frame
 }
 
 // The frame that a line spells, the line taken without its line feed. No frame is shorter than a size, and none longer
-// than a query with the most entries, so such a line is not looked into.
+// than a capped query with the most entries, so such a line is not looked into.
 pub fn decode(line: &[u8]) -> Frame
     ensures { λ r. ⌜ r ≡ frameOf (now (line .entry)) ⌝ }
 {
@@ -261,26 +303,28 @@ pub fn decode(line: &[u8]) -> Frame
     frame_in(&table, line)
 }
 
-// The entries of a query line's pattern, to the front of a list that has room for them.
-fn write_entries(table: &[u8; 256], line: &[u8], entries: &mut [u8])
-    requires { ⌜ (now table ≡ valueTable) × (12 ≤ length (now line)) × (length (now line) ≤ 12 + length (now entries)) ⌝ }
-    ensures { λ _. ⌜ now (entries .exit) ≡ laid (patternDigits (now (line .entry))) (now (entries .entry)) ⌝ }
+// The entries of a query line's pattern, which are its digits from a place on, to the front of a list that has room for them.
+fn write_entries(table: &[u8; 256], line: &[u8], at: usize, entries: &mut [u8])
+    requires { ⌜ (now table ≡ valueTable) × (at ≤ length (now line)) × (length (now line) ≤ at + length (now entries)) ⌝ }
+    ensures { λ _. ⌜ now (entries .exit) ≡ laid (entriesFrom at (now (line .entry))) (now (entries .entry)) ⌝ }
 {
     let mut i = 0;
-    while i < line.len() - QUERY_DIGITS {
-        entries[i] = value(table, line[QUERY_DIGITS + i]);
+    while i < line.len() - at {
+        entries[i] = value(table, line[at + i]);
         i += 1;
     }
 }
 
-// The pattern of a query line, handed to the front of a lent list, and how many entries it has. Where the line is no sound
-// query, or the list is too short, the answer is 0 and the list stays as it was.
+// The pattern of a query line, handed to the front of a lent list, and how many entries it has. They are the line's last digits,
+// with a cap before them and without. Where the line is no sound query, or the list is too short, the answer is 0 and the list
+// stays as it was.
 pub fn pattern(line: &[u8], entries: &mut [u8]) -> usize
     ensures { λ r. ⌜ Placed (patternOf (now (line .entry))) (now (entries .entry)) (now (entries .exit)) r ⌝ }
 {
     let Frame::Query {
         start: _,
         end: _,
+        cap: _,
         entries: count,
     } = decode(line)
     else {
@@ -291,7 +335,7 @@ pub fn pattern(line: &[u8], entries: &mut [u8]) -> usize
         return 0;
     }
     let table = VALUES;
-    write_entries(&table, line, entries);
+    write_entries(&table, line, line.len() - n, entries);
     n
 }
 
@@ -364,22 +408,47 @@ fn place_line(room: &mut [u8], widths: &[usize], values: &[u32], bytes: usize) -
     write_line(room, widths, values)
 }
 
-// A route's line and its path's, where both fit; else 0, and the room stays as it was. The path's line starts where the
-// route's ended.
-fn place_route(room: &mut [u8], values: &[u32], path: &[u16]) -> usize
-    requires { ⌜ length (now values) ≡ 7 ⌝ }
-    ensures { λ r. ⌜ Placed (lineOf routeWidths (now (values .entry)) ++ pathLine (now (path .entry))) (now (room .entry)) (now (room .exit)) r ⌝ }
+// A line and a path's line, where both fit; else 0, and the room stays as it was. The path's line starts where the first
+// ended. `bytes` is the length of both without the path's nodes.
+fn place_route(
+    room: &mut [u8],
+    widths: &[usize],
+    values: &[u32],
+    bytes: usize,
+    path: &[u16],
+) -> usize
+    requires { ⌜ (length (now widths) ≡ length (now values)) × (length (lineOf (now widths) (now values)) + 3 ≡ bytes) ⌝ }
+    ensures { λ r. ⌜ Placed (lineOf (now (widths .entry)) (now (values .entry)) ++ pathLine (now (path .entry))) (now (room .entry)) (now (room .exit)) r ⌝ }
 {
-    if room.len() < ROUTE_BYTES + PATH_BYTES {
+    if room.len() < bytes {
         return 0;
     }
-    if (room.len() - (ROUTE_BYTES + PATH_BYTES)) / NODE_DIGITS < path.len() {
+    if (room.len() - bytes) / NODE_DIGITS < path.len() {
         return 0;
     }
-    let widths = ROUTE_WIDTHS;
-    let at = write_line(room, &widths, values);
+    let at = write_line(room, widths, values);
     let more = write_path(&mut room[at..], path);
     at + more
+}
+
+// The same with the path that an answer shows: the first entries of the path list, as many as it has nodes, or all of them
+// where there are fewer.
+fn place_with_path(
+    room: &mut [u8],
+    widths: &[usize],
+    values: &[u32],
+    bytes: usize,
+    nodes: u16,
+    path: &[u16],
+) -> usize
+    requires { ⌜ (length (now widths) ≡ length (now values)) × (length (lineOf (now widths) (now values)) + 3 ≡ bytes) ⌝ }
+    ensures { λ r. ⌜ Placed (lineOf (now (widths .entry)) (now (values .entry)) ++ pathLine (take nodes (now (path .entry)))) (now (room .entry)) (now (room .exit)) r ⌝ }
+{
+    let n = nodes as usize;
+    if n < path.len() {
+        return place_route(room, widths, values, bytes, &path[..n]);
+    }
+    place_route(room, widths, values, bytes, path)
 }
 
 // The number of a refusal: its row in docs/RULES.md, "Refusal numbers".
@@ -420,11 +489,11 @@ fn cause_place(cause: Cause) -> u32
     }
 }
 
-// The lines of a route of this total length. The path is the first entries of the path list, as many as the route has
-// nodes, or all of them where there are fewer.
+// The lines of a route of this total length.
 fn write_route(room: &mut [u8], total: u32, nodes: u16, figures: Figures, path: &[u16]) -> usize
     ensures { λ r. ⌜ Placed (answerLines (Answer.Route total nodes figures) (now (path .entry))) (now (room .entry)) (now (room .exit)) r ⌝ }
 {
+    let widths = ROUTE_WIDTHS;
     let values: [u32; 7] = [
         ROUTE_KIND,
         total,
@@ -434,11 +503,30 @@ fn write_route(room: &mut [u8], total: u32, nodes: u16, figures: Figures, path: 
         figures.opened_by_end as u32,
         figures.rejected as u32,
     ];
-    let n = nodes as usize;
-    if n < path.len() {
-        return place_route(room, &values, &path[..n]);
-    }
-    place_route(room, &values, path)
+    place_with_path(
+        room,
+        &widths,
+        &values,
+        ROUTE_BYTES + PATH_BYTES,
+        nodes,
+        path,
+    )
+}
+
+// The lines of a provisional route of this total length, whatever its figures: they are not shown.
+fn write_provisional(room: &mut [u8], total: u32, excess: u32, nodes: u16, path: &[u16]) -> usize
+    ensures { λ r. ⌜ ((figures : Figures) → Placed (answerLines (Answer.Provisional total excess nodes figures) (now (path .entry))) (now (room .entry)) (now (room .exit)) r) ⌝ }
+{
+    let widths = PROVISIONAL_WIDTHS;
+    let values: [u32; 3] = [PROVISIONAL_KIND, total, excess];
+    place_with_path(
+        room,
+        &widths,
+        &values,
+        PROVISIONAL_BYTES + PATH_BYTES,
+        nodes,
+        path,
+    )
 }
 
 // The line of "no route".
@@ -454,6 +542,15 @@ fn write_no_route(room: &mut [u8], figures: Figures) -> usize
         figures.rejected as u32,
     ];
     place_line(room, &widths, &values, NO_ROUTE_BYTES)
+}
+
+// The line of an undecided query.
+fn write_undecided(room: &mut [u8], figures: Figures) -> usize
+    ensures { λ r. ⌜ Placed (answerLine (Answer.Undecided figures)) (now (room .entry)) (now (room .exit)) r ⌝ }
+{
+    let widths = UNDECIDED_WIDTHS;
+    let values: [u32; 2] = [UNDECIDED_KIND, figures.turns as u32];
+    place_line(room, &widths, &values, UNDECIDED_BYTES)
 }
 
 // The line of a refusal.
@@ -478,5 +575,12 @@ pub fn write_answer(room: &mut [u8], answer: Answer, path: &[u16]) -> usize
         } => write_route(room, length, nodes, figures, path),
         Answer::NoRoute(figures) => write_no_route(room, figures),
         Answer::Refused(cause) => write_refusal(room, cause),
+        Answer::Provisional {
+            length,
+            excess,
+            nodes,
+            figures: _,
+        } => write_provisional(room, length, excess, nodes, path),
+        Answer::Undecided(figures) => write_undecided(room, figures),
     }
 }

@@ -55,6 +55,11 @@ arc-frame-requires-2 c κs =
     let at-if1 = c .before .before in
     readable at-if1
 
+capped-frame-requires : tie.Need-capped-frame-requires
+capped-frame-requires c κs =
+    let at-if1 = c .before .before in
+    readable at-if1
+
 returns : tie.Need-returns
 unfolding ofKind
 returns c =
@@ -98,17 +103,32 @@ returns-5 c =
 returns-6 : tie.Need-returns-6
 unfolding ofKind
 returns-6 c =
+    let at-if1 = c .before .before .before in
+    let number = c .before .before .number in
+    let match = c .before .match in
+    c .capped-frame .ensures ∙ by-kind _ 7 (digits at-if1) (sym (number .ensures .0) ∙ match .keys6)
+
+returns-7 : tie.Need-returns-7
+unfolding ofKind
+returns-7 c =
     let entry = c .before .before .before .before .before in
     let at-if1 = c .before .before in
     let number = c .before .number in
     let k = number .result in
     let other : Unsound ≡ ofKind k (entry .args .line .now) =
-    simp (ne-eqb k 1 (search needs), ne-eqb k 2 (search needs), ne-eqb k 3 (search needs), ne-eqb k 4 (search needs), ne-eqb k 5 (search needs)) in
+    simp (
+      ne-eqb k 1 (search needs),
+      ne-eqb k 2 (search needs),
+      ne-eqb k 3 (search needs),
+      ne-eqb k 4 (search needs),
+      ne-eqb k 5 (search needs),
+      ne-eqb k 7 (search needs),
+    ) in
     other ∙ by-kind _ k (digits at-if1) (sym (number .ensures .0))
 
-returns-7 : tie.Need-returns-7
+returns-8 : tie.Need-returns-8
 unfolding frameOf
-returns-7 c = rw (sym (c .before .are-digits .ensures) ∙ c .if1 .left)
+returns-8 c = rw (sym (c .before .are-digits .ensures) ∙ c .if1 .left)
 
 pub frame-in-spec : {M : Type 1} → statement M
 frame-in-spec =
@@ -121,10 +141,12 @@ frame-in-spec =
     potentials-frame-requires
     query-frame-requires
     arc-frame-requires-2
+    capped-frame-requires
     returns
     returns-2
     returns-3
     returns-4
     returns-5
     returns-6
-    returns-7)
+    returns-7
+    returns-8)

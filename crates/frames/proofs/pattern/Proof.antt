@@ -1,4 +1,4 @@
--- `frames::pattern` meets its contract: only a query has entries, and its line has one digit for each. Assumes nothing.
+-- `frames::pattern` meets its contract: only a query has entries, and its line ends with one digit for each. Assumes nothing.
 use mathlib.Core.Path.{_≡_, refl, sym, _∙_}
 use mathlib.Core.Logic.{⊎-elim}
 use mathlib.Core.List.{List, []}
@@ -7,7 +7,7 @@ use native.Mathlib.Omega.{arith}
 use denote.Enum.Declared.{tagOf}
 use lib.ListN.{length}
 use Rattle.frames.specs.Digits.{valueOf, valueTable}
-use Rattle.frames.specs.Frame.{patternDigits, entriesOf, patternOf}
+use Rattle.frames.specs.Frame.{entriesFrom, entriesOf, patternOf}
 use Rattle.frames.specs.FrameCases.{query-length}
 use Rattle.frames.specs.RoomLaws.{laid-placed, too-little-room, nothing-placed}
 use Rattle.frames.specs.LineSteps.{query-pattern, length-pattern}
@@ -19,13 +19,13 @@ use Rattle.frames.proofs.pattern.Statement.{statement}
 use Rattle.frames.proofs.pattern.Tie as tie
 
 -- a frame that is no query has no entries
-no-entries : (f : Frame) (ds : List ℕ) → (tagOf the-type f ≡ 4 → ⊥) → entriesOf f ds ≡ []
-no-entries (Query a b n) ds h = absurd (h refl)
-no-entries (Size n m) ds h = refl
-no-entries (Arc t a w) ds h = refl
-no-entries (TwoWay t a w) ds h = refl
-no-entries (Potentials n a k) ds h = refl
-no-entries Unsound ds h = refl
+no-entries : (f : Frame) (s : List ℕ) → (tagOf the-type f ≡ 4 → ⊥) → entriesOf f s ≡ []
+no-entries (Query a b c n) s h = absurd (h refl)
+no-entries (Size n m) s h = refl
+no-entries (Arc t a w) s h = refl
+no-entries (TwoWay t a w) s h = refl
+no-entries (Potentials n a k) s h = refl
+no-entries Unsound s h = refl
 
 decode-requires : tie.Need-decode-requires
 decode-requires c κs = search needs
@@ -44,7 +44,7 @@ returns c =
     ⊎-elim (λ h. omega arith)
     (⊎-elim (λ h. omega arith) (⊎-elim (λ h. omega arith) (⊎-elim (λ h. omega arith) (λ h. omega arith))))
     (c .match .keys2) in
-    let none : entriesOf f (patternDigits (a .line .now)) ≡ [] = no-entries f _ other in
+    let none : entriesOf f (a .line .now) ≡ [] = no-entries f _ other in
     rw (sym (decode .ensures), none) (nothing-placed (a .entries .now))
 
 cast-n : tie.Need-cast-n
@@ -60,17 +60,17 @@ returns-2 c =
     rw (← query-pattern (a .line .now) e)
     (too-little-room _ (a .entries .now) (omega (arith, length-pattern (a .line .now) e)))
 
+sub-write-entries : tie.Need-sub-write-entries
+sub-write-entries c =
+    let entry = c .before .before .before .before .before .before .before .before in
+    let decode = c .before .before .before .before .before .decode in
+    let count = c .before .before .before .count in
+    let e = sym (decode .ensures) ∙ count .given .1 in
+    omega (arith, query-length (entry .args .line .now) e)
+
 write-entries-requires : tie.Need-write-entries-requires
 unfolding valueTable valueOf
-write-entries-requires c κs =
-    let entry = c .before .before .before .before .before .before .before .before .before in
-    let decode = c .before .before .before .before .before .before .decode in
-    let count = c .before .before .before .before .count in
-    let a = entry .args in
-    let e = sym (decode .ensures) ∙ count .given .1 in
-    let l = query-length (a .line .now) e in
-    let most : length (a .line .now) ≤ 12 + length (a .entries .now) = omega arith in
-    (refl, omega arith, most)
+write-entries-requires c κs = (refl, omega arith, omega arith)
 
 same-length : tie.Need-same-length
 same-length c = search needs
@@ -96,6 +96,7 @@ pattern-spec =
     returns
     cast-n
     returns-2
+    sub-write-entries
     write-entries-requires
     same-length
     returns-3)

@@ -4,6 +4,7 @@ use native.Mathlib.Omega.{arith}
 use mathlib.Core.List.{List}
 use Prim.Native.Nat.{ℕ, _+_}
 use lib.ListN.{length}
+use Rattle.network.specs.declared.Cap.the-variants.{Uncapped}
 use Rattle.frames.specs.Digits.{numberAt}
 use borrow.Author.Tests.{eq-eqb, ne-eqb}
 use Rattle.frames.specs.Frame.{queryOf}
@@ -17,7 +18,7 @@ no-query : (s : List ℕ) → (length s ≡ 12 + numberAt s 10 2 → ⊥) → Un
 unfolding queryOf
 no-query s l = rw (ne-eqb _ _ l)
 
-a-query : (s : List ℕ) {a b n : ℕ} → length s ≡ 12 + numberAt s 10 2 → a ≡ numberAt s 2 4 → b ≡ numberAt s 6 4 → n ≡ numberAt s 10 2 → Query a b n ≡ queryOf s
+a-query : (s : List ℕ) {a b n : ℕ} → length s ≡ 12 + numberAt s 10 2 → a ≡ numberAt s 2 4 → b ≡ numberAt s 6 4 → n ≡ numberAt s 10 2 → Query a b Uncapped n ≡ queryOf s
 unfolding queryOf
 a-query s l a b n = rw (eq-eqb _ _ l, a, b, n)
 
@@ -54,8 +55,8 @@ number-requires-3 c κs = search needs
 cast-end : tie.Need-cast-end
 cast-end c = search needs
 
-cast-t11 : tie.Need-cast-t11
-cast-t11 c = search needs
+cast-t12 : tie.Need-cast-t12
+cast-t12 c = search needs
 
 returns-3 : tie.Need-returns-3
 returns-3 c =
@@ -79,5 +80,5 @@ query-frame-spec =
     cast-start
     number-requires-3
     cast-end
-    cast-t11
+    cast-t12
     returns-3)

@@ -21,6 +21,18 @@ enum-known-answer-3 c = search needs
 write-refusal-requires : tie.Need-write-refusal-requires
 write-refusal-requires c κs = search needs
 
+enum-known-answer-4 : tie.Need-enum-known-answer-4
+enum-known-answer-4 c = search needs
+
+write-provisional-requires : tie.Need-write-provisional-requires
+write-provisional-requires c κs = search needs
+
+enum-known-answer-5 : tie.Need-enum-known-answer-5
+enum-known-answer-5 c = search needs
+
+write-undecided-requires : tie.Need-write-undecided-requires
+write-undecided-requires c κs = search needs
+
 same-length : tie.Need-same-length
 same-length c = search needs
 
@@ -48,6 +60,24 @@ returns-3 c =
     let write-refusal = c .before .before .write-refusal in
     rw (answer3 .given .1) (write-refusal .ensures)
 
+same-length-4 : tie.Need-same-length-4
+same-length-4 c = search needs
+
+returns-4 : tie.Need-returns-4
+returns-4 c =
+    let answer4 = c .before .before .before .before .before .answer4 in
+    let write-provisional = c .before .before .write-provisional in
+    rw (answer4 .given .1) (write-provisional .ensures (answer4 .given .0 .1 .1 .1 .0))
+
+same-length-5 : tie.Need-same-length-5
+same-length-5 c = search needs
+
+returns-5 : tie.Need-returns-5
+returns-5 c =
+    let answer5 = c .before .before .before .before .before .answer5 in
+    let write-undecided = c .before .before .write-undecided in
+    rw (answer5 .given .1) (write-undecided .ensures)
+
 pub write-answer-spec : {M : Type 1} → statement M
 write-answer-spec =
     tie.close
@@ -58,9 +88,17 @@ write-answer-spec =
     write-no-route-requires
     enum-known-answer-3
     write-refusal-requires
+    enum-known-answer-4
+    write-provisional-requires
+    enum-known-answer-5
+    write-undecided-requires
     same-length
     returns
     same-length-2
     returns-2
     same-length-3
-    returns-3)
+    returns-3
+    same-length-4
+    returns-4
+    same-length-5
+    returns-5)

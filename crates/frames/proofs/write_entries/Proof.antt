@@ -1,27 +1,26 @@
--- `frames::write_entries` meets its contract: the entries underway are the values of the digits from the thirteenth on.
--- Assumes nothing.
+-- `frames::write_entries` meets its contract: the entries underway are the values of the line's digits from the place on. Assumes nothing.
 use mathlib.Core.List.{_∷_}
 use mathlib.Core.Path.{_≡_}
 use Prim.Native.Nat.{_+_, _-_, _≤_}
 use native.Mathlib.Omega.{arith}
 use lib.ListN.{length}
-use Rattle.frames.specs.Frame.{patternDigits}
+use Rattle.frames.specs.Frame.{entriesFrom}
 use Rattle.frames.specs.RoomLaws.{Underway, underway-start, underway-entry, underway-end}
-use Rattle.frames.specs.LineSteps.{entriesLeft, entries-more, entries-all-read, length-entries}
+use Rattle.frames.specs.LineSteps.{entries-more, entries-all-read, length-entries}
 use Rattle.frames.proofs.write_entries.Statement.{statement}
 use Rattle.frames.proofs.write_entries.Tie as tie
 
 abbrev Inv-loop : tie.InvT-loop
-Inv-loop table line entries₀ i₀ entries i = (i ≤ length line - 12) × Underway (patternDigits line) entries₀ entries i (entriesLeft line i)
+Inv-loop table line at entries₀ i₀ entries i = (i ≤ length line - at) × Underway (entriesFrom at line) entries₀ entries i (entriesFrom (at + i) line)
 
 abbrev μ-loop : tie.MeasureT-loop
-μ-loop table line entries₀ i₀ entries i = length line - i
+μ-loop table line at entries₀ i₀ entries i = length line - i
 
 loop-holds : tie.Need-loop-holds Inv-loop μ-loop
-unfolding patternDigits
 loop-holds c =
-    let entry = c .before .before in
-    (omega arith, underway-start _ (entry .args .entries .now) (omega (arith, length-entries (entry .args .line .now))))
+    let a = c .before .before .args in
+    let from : a .at + 0 ≡ a .at = omega arith in
+    (omega arith, rw from (underway-start _ (a .entries .now) (omega (arith, length-entries (a .at) (a .line .now)))))
 
 sub-loop : tie.Need-sub-loop Inv-loop μ-loop
 sub-loop c = omega arith
@@ -47,24 +46,22 @@ loop-less : tie.Need-loop-less Inv-loop μ-loop
 loop-less c = omega arith
 
 loop-again : tie.Need-loop-again Inv-loop μ-loop
-unfolding patternDigits
 loop-again c =
     let entry = c .before .before .before .before .before .before in
     let loop = c .before .before .before .loop in
     let a = entry .args in
-    let more : entriesLeft (a .line .now) (loop .i) ≡ c .value .result ∷ entriesLeft (a .line .now) (loop .i + 1) = rw (c .value .ensures) (entries-more (a .line .now) (loop .i) (omega arith)) in
+    let more : entriesFrom (a .at + loop .i) (a .line .now) ≡ c .value .result ∷ entriesFrom (a .at + (loop .i + 1)) (a .line .now) = rw (c .value .ensures) (entries-more (a .at) (a .line .now) (loop .i) (omega arith)) in
     (omega arith, underway-entry _ (a .entries .now) (loop .entries) (loop .i) (c .value .result) _ (rw more at (loop .inv .1)))
 
 same-length : tie.Need-same-length Inv-loop μ-loop
 same-length c = c .before .loop .inv .1 .size
 
 returns : tie.Need-returns Inv-loop μ-loop
-unfolding patternDigits
 returns c =
     let entry = c .before .before .before .before in
     let loop = c .before .loop in
     let a = entry .args in
-    underway-end _ (a .entries .now) (loop .entries) (loop .i) (rw (entries-all-read (a .line .now) (loop .i) (omega arith)) at (loop .inv .1)) .room-is
+    underway-end _ (a .entries .now) (loop .entries) (loop .i) (rw (entries-all-read (a .at + loop .i) (a .line .now) (omega arith)) at (loop .inv .1)) .room-is
 
 pub write-entries-spec : {M : Type 1} → statement M
 write-entries-spec =
