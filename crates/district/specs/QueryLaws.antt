@@ -77,8 +77,9 @@ module _ (q : Query) (cap : ℕ) where
   refused-lines c e = rw e
 
 -- a query prints what it prints with the turns that it gives
-pub given-lines : (c : Cap) (q : Query) (turns : ℕ) → turns ≡ turnsGiven c q → queryLines (AtMost turns) q ≡ queryLines c q
-given-lines c q turns e = ap (λ (n : ℕ). queryLines (AtMost n) q) e ∙ sym (capped-lines c q)
+pub given-lines : (c : Cap) (nodes turns : ℕ) → ((q : Query) → q .network .nodes ≡ nodes → turns ≡ turnsGiven c q)
+    → (q : Query) → q .network .nodes ≡ nodes → queryLines (AtMost turns) q ≡ queryLines c q
+given-lines c nodes turns given q e = ap (λ (n : ℕ). queryLines (AtMost n) q) (given q e) ∙ sym (capped-lines c q)
 
 -- ---- the verdict on a query, from the trip's and the network's own
 pub verdict-parts : {own : Verdict} {g : Network} {h k : List ℤ} → Known own g h k → (s e : ℕ) (p : List ℕ)
