@@ -2,7 +2,6 @@
 -- there are nodes. And what a search at a cap answers, in four cases. Assumes nothing.
 use mathlib.Core.Path.{_≡_, refl, sym, ap}
 use mathlib.Core.Bool.{true, false}
-use mathlib.Core.List.{List}
 use Prim.Native.Nat.{ℕ}
 use lib.ListN.{length}
 use Rattle.network.specs.declared.Answer.{Answer}

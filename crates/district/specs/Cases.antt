@@ -11,7 +11,7 @@ use Rattle.network.specs.Network.{isArc}
 use Rattle.network.specs.Potential.{keepsRule}
 use Rattle.network.specs.Query.{sideOfTurn}
 use Rattle.network.specs.Refusal.{lowest, badNodeCount, badArcLists, badPotentialLists, badStartOrEnd, badEntry, badPattern, badRoom, badArc, outOfRange, badPotential, breaksRule, listRows, tripRows, mapRows, firstRefusal, queryVerdict}
-use Rattle.nba.specs.Search.{beginningHalf, atBeginning, lower, leastBelow, candidate, ended, rejected, arcsBelow, arcsOf, withLabel, withMeeting, lookAt, lookAtEach, halfAfter, afterReach, rejecting, opening, turn, turnUnlessEnded, afterTurns, atOnce, stateAt, endState}
+use Rattle.nba.specs.Search.{beginningHalf, atBeginning, lower, leastBelow, candidate, ended, rejected, arcsBelow, arcsOf, withLabel, withMeeting, lookAt, lookAtEach, halfAfter, afterReach, rejecting, opening, turn, turnUnlessEnded, afterTurns, atOnce, stateAt}
 use Rattle.nba.specs.Result.{trail, turnedBefore, pathThrough, pathOf, countOf, figuresIn, answerAt, found, answerTo, excessOver, excess, unendedAt, foundAt, answerToAt}
 use Rattle.frames.specs.Digits.{digitOf, valueOf, areDigits, numberFrom, numberAt, digitsOf, spelled}
 use Rattle.frames.specs.Signed.{signedOf}
