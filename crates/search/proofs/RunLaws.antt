@@ -1,7 +1,8 @@
 -- A turn of one side, made on the side's own lists with its arcs turned its way, is the turn that `nba` defines. Proved once,
 -- over the side. Assumes nothing.
 use mathlib.Core.Path.{_≡_, refl, sym, ap, _∙_}
-use mathlib.Core.Bool.{Bool, true, false, _||_}
+use mathlib.Core.Bool.{true, false}
+use mathlib.Core.Logic.{_≢_}
 use mathlib.Core.List.{List, [], _∷_}
 use Prim.Native.Nat.{ℕ, zero, suc, _+_, _%_, _^_, _≤_, _<_}
 use borrow.Author.Tests.{eq-eqb, ne-eqb}
@@ -16,7 +17,8 @@ use Rattle.network.specs.Network.{Side, start, end, other, Network, network, ar
 use Rattle.network.specs.Potential.{potentialAt}
 use Rattle.network.specs.Query.{Query, potentials, source, sideOfTurn}
 use Rattle.nba.specs.State.{missing, noNode, State, half, undecided, openedBy}
-use Rattle.nba.specs.Search.{Chosen, none, node, isNone, leastBelow, candidate, rejected, arcsBelow, arcsOf, Reach, floorAfter, halfAfter, afterReach, reachOf, rejecting, ended, atBeginning, beginningHalf, atOnce, stateAt, endState}
+use Rattle.nba.specs.Search.{Chosen, none, node, leastBelow, candidate, rejected, arcsBelow, arcsOf, Reach, floorAfter, halfAfter, afterReach, reachOf, rejecting, ended, atBeginning, beginningHalf, atOnce, stateAt}
+use Rattle.nba.specs.Result.{over}
 use Rattle.nba.specs.Why.ByMark.{lookByMark, lookEachByMark, openingByMark, takesByMark, turnByMark, afterTurnsByMark}
 use Rattle.network.specs.Shift.{mag-add}
 use Rattle.network.specs.SoundLaws.{range-fine}
@@ -24,13 +26,16 @@ use Rattle.nba.specs.Why.StateLaws.{both-sides, half-own, half-theirs}
 use Rattle.nba.specs.Why.LeastLaws.{LeastAt, Choice, no-node, least-node, choice-is}
 use Rattle.nba.specs.Why.MeasureLaws.{shiftable}
 use Rattle.nba.specs.Why.CodeLaws.{goes-on-by-mark, stays-ended-by-mark}
-use Rattle.nba.specs.Why.ByMarkLaws.{same-end}
+use Rattle.nba.specs.Why.ByMarkLaws.{same-at}
 use Rattle.nba.specs.Why.EndLaws.{going-few}
-use Rattle.turn.specs.declared.Candidate.the-variants.{Nothing, Node}
 use Rattle.turn.specs.declared.Progress.{Progress}
 use Rattle.turn.specs.Turn.{meant, Took, took, nodeTaken, bestOf, Ahead, Openable, Passed}
+use Rattle.cap.specs.declared.Course.{Course}
+use Rattle.cap.specs.declared.Course.the-variants.{Turn, Ended, UsedUp}
+use Rattle.cap.specs.Stop.{courseOf}
+use Rattle.cap.specs.StopLaws.{Turning, turn-says, ended-says, used-up-says}
 use Rattle.turn.proofs.TurnLaws.{rejected-is-rejects}
-use Rattle.search.specs.Run.{standingOf, KnowsNext, Long, Floors, swappedOf, turnOf, Foreseen, Taking, Begun, TurnsMade, lastState, Remains, remains, remainsOf}
+use Rattle.search.specs.Run.{standingOf, KnowsNext, Long, Floors, swappedOf, turnOf, Foreseen, Taking, Begun, TurnsMade, StoppedAt}
 
 -- the network with its arcs turned the way of a side
 abbrev pub sideways : Side → Network → Network
@@ -262,44 +267,62 @@ module _ {q : Query} (sound : Sound q) {i : ℕ} {st : State} {p : Progress} (wa
     beyond = rw (f ∙ ap (λ s. half end s .floor) (way .here)) (floors-small sound i .small end);
   }
 
-  module _ {a b : ℕ} {k j : ℤ} (own : p .own ≡ Node a k) (yours : p .other ≡ Node b j) where
-    start-takes-is : candidate q start st ≡ node a k
-    start-takes-is = sym (way .foreseen .mine) ∙ ap meant own
+module _ {q : Query} (sound : Sound q) {i : ℕ} {st : State} {p : Progress} (way : TurnsMade q i st p) (cap : ℕ) where
+  -- step 2, of the state
+  courses : {r : Course} → r ≡ courseOf (meant (p .own)) (meant (p .other)) i cap → courseOf (candidate q start st) (candidate q end st) i cap ≡ r
+  courses e = sym (e ∙ rw (way .foreseen .mine, way .foreseen .yours))
 
-    end-takes-is : candidate q end st ≡ node b j
-    end-takes-is = sym (way .foreseen .yours) ∙ ap meant yours
+  module _ {a b : ℕ} (c : Turn a b ≡ courseOf (meant (p .own)) (meant (p .other)) i cap) where
+    turning : Turning (candidate q start st) (candidate q end st) i cap a b
+    turning = turn-says (candidate q start st) (candidate q end st) i cap (courses c)
 
     -- both sides have a node to take
     pub both-take : p .floor ≡ half start st .floor → p .beyond ≡ half end st .floor → Taking q st a b p
-    both-take e f = record { start-key = k; start-takes = start-takes-is; end-key = j; end-takes = end-takes-is; floors = floors-of e f }
+    both-take e f = record {
+      start-key = turning .own-key;
+      start-takes = turning .own-takes;
+      end-key = turning .other-key;
+      end-takes = turning .other-takes;
+      floors = floors-of sound way e f;
+    }
 
     going : ended q (afterTurnsByMark q i) ≡ false
     unfolding ended
-    going = rw (sym (way .here)) (rw (start-takes-is, end-takes-is) refl)
+    going = rw (sym (way .here)) (rw (turning .own-takes, turning .other-takes) refl)
 
     -- so there are turns left
     pub turns-left : i < q .network .nodes
     turns-left = going-few sound i going
 
+    -- and within the cap
+    pub within-cap : i < cap
+    within-cap = turning .turns-left
+
     -- and the state after the next one is the next
     pub underway-next : {after : State} {r : Progress} → after ≡ turnOf q i st → Foreseen q after r → TurnsMade q (i + 1) after r
     underway-next t f = record { here = t ∙ rw (way .here) (sym (rw (add-one i) (goes-on-by-mark q i going))); foreseen = f }
 
-  -- a side has none: the search has ended, and this is its last state
-  over : ended q st ≡ true → i ≤ q .network .nodes → remainsOf st ≡ remainsOf (lastState q)
-  over e h = ap remainsOf (way .here ∙ sym (stays-ended-by-mark q i (q .network .nodes) (ap (ended q) (sym (way .here)) ∙ e) h))
-
-  pub over-at-start : p .own ≡ Nothing → i ≤ q .network .nodes → remainsOf st ≡ remainsOf (lastState q)
+  -- a side has none: the search has ended, and this is its state at every later cap
+  ended-here : Ended ≡ courseOf (meant (p .own)) (meant (p .other)) i cap → ended q st ≡ true
   unfolding ended
-  over-at-start e = over (rw (sym (way .foreseen .mine) ∙ ap meant e) refl)
+  ended-here e = ended-says (candidate q start st) (candidate q end st) i cap (courses e)
 
-  pub over-at-end : p .other ≡ Nothing → i ≤ q .network .nodes → remainsOf st ≡ remainsOf (lastState q)
+  stopped-ended : q .start ≢ q .end → i ≤ cap → Ended ≡ courseOf (meant (p .own)) (meant (p .other)) i cap
+      → (st ≡ stateAt q cap) × (true ≡ over q (stateAt q cap))
+  stopped-ended d h e =
+      let o = ended-here e in
+      let s : st ≡ stateAt q cap = way .here ∙ sym (same-at sound d cap ∙ stays-ended-by-mark q i cap (ap (ended q) (sym (way .here)) ∙ o) h) in
+      (s, sym (rw (sym s) (rw (ne-eqb (q .start) (q .end) d) o)))
+
+  -- the turns are used up: this is the state at the cap, and the search has not ended
+  stopped-used-up : q .start ≢ q .end → i ≤ cap → UsedUp ≡ courseOf (meant (p .own)) (meant (p .other)) i cap
+      → (st ≡ stateAt q cap) × (false ≡ over q (stateAt q cap))
   unfolding ended
-  over-at-end e = over (rw (sym (way .foreseen .yours) ∙ ap meant e) (either (isNone (candidate q start st))))
-    where
-      either : (b : Bool) → (b || true) ≡ true
-      either true = refl
-      either false = refl
+  stopped-used-up d h e =
+      let o = used-up-says (candidate q start st) (candidate q end st) i cap (courses e) in
+      let n : i ≡ cap = omega (arith, o .no-turns) in
+      let s : st ≡ stateAt q cap = way .here ∙ ap (afterTurnsByMark q) n ∙ sym (same-at sound d cap) in
+      (s, sym (rw (sym s) (rw (ne-eqb (q .start) (q .end) d) (o .both))))
 
 -- lists that kept their lengths
 pub kept-long : {n : ℕ} {labels neighbours theirs beyond states labels′ neighbours′ theirs′ beyond′ states′ : List ℕ} → Long n labels neighbours theirs beyond states
@@ -321,42 +344,50 @@ module _ {q : Query} (sound : Sound q) {sl sn el en states : List ℕ} {p : Prog
   unfolding afterTurnsByMark
   begun-underway = record { here = b .at-first (q .network) (q .pattern) refl; foreseen = b .foreseen (q .network) (q .pattern) refl }
 
-  -- start equal to end: it has ended at once
-  pub ended-at-once : {s : ℕ} → s ≡ q .start → q .start ≡ q .end → remains sl sn el en states (record { length = 0; node = s }) ≡ remainsOf (endState q)
+  -- start equal to end: it is over at once
+  pub over-at-once : (cap : ℕ) {s : ℕ} {r : Progress} → s ≡ q .start → q .start ≡ q .end → r .length ≡ 0 → r .meeting ≡ s → r .floor ≡ p .floor → r .beyond ≡ p .beyond
+      → StoppedAt q cap (standingOf start sl sn el en states r) (record { progress = r; over = true })
   unfolding stateAt atOnce atBeginning
-  ended-at-once e h =
-      let f : standingOf start sl sn el en states p ≡ atBeginning q = b .at-first (q .network) (q .pattern) refl in
-      rw (eq-eqb _ _ h, e) (ap (λ (t : Remains). record { start-labels = t .start-labels; start-neighbours = t .start-neighbours; end-labels = t .end-labels; end-neighbours = t .end-neighbours; states = t .states; best = 0; meeting = q .start }) (ap remainsOf f))
-
--- start and end different: it ends with its last state
-ended-last : {q : Query} {t : Remains} → Sound q → (q .start ≡ q .end → ⊥) → t ≡ remainsOf (lastState q) → t ≡ remainsOf (endState q)
-ended-last sound h e = rw (same-end sound h) e
+  over-at-once cap {r = r} e h l m f g =
+      let w = floors-of sound begun-underway refl refl in
+      let first : standingOf start sl sn el en states p ≡ atBeginning q = b .at-first (q .network) (q .pattern) refl in
+      record {
+        here = rw (eq-eqb _ _ h, l, m, e, f, g) (ap (λ (t : State). record { start-half = t .start-half; end-half = t .end-half; states = t .states; best = 0; meeting = q .start }) first);
+        whether-over = rw (eq-eqb _ _ h);
+        floors = record { floor = rw f (w .floor); beyond = rw g (w .beyond) };
+      }
 
 -- ---- the loop of turns
--- before a turn: i turns were made, and the lists stand for the state after them
-pub record Going (q : Query) (i : ℕ) (sl sn el en states : List ℕ) (p : Progress) : Type 0 where
-  pub few : i ≤ q .network .nodes
+-- before a turn: i turns were made, no more than the cap allows, and the lists stand for the state after them
+pub record Going (q : Query) (cap i : ℕ) (sl sn el en states : List ℕ) (p : Progress) : Type 0 where
+  pub few : i ≤ cap
   pub sound : Sound q
   pub long : Long (q .network .nodes) sl sn el en states
   pub way : TurnsMade q i (standingOf start sl sn el en states p) p
 
-module _ {q : Query} {i : ℕ} {sl sn el en states : List ℕ} {p : Progress} (g : Going q i sl sn el en states p) where
+module _ {q : Query} {cap i : ℕ} {sl sn el en states : List ℕ} {p : Progress} (g : Going q cap i sl sn el en states p) where
   -- both sides take a node: after the turn one turn more was made
-  pub going-on : (q′ : Query) (sl′ sn′ el′ en′ states′ : List ℕ) {r : Progress} {a b : ℕ} {k j : ℤ} → q ≡ q′ → p .own ≡ Node a k → p .other ≡ Node b j
+  pub going-on : (q′ : Query) (sl′ sn′ el′ en′ states′ : List ℕ) {r : Progress} {a b : ℕ} → q ≡ q′ → Turn a b ≡ courseOf (meant (p .own)) (meant (p .other)) i cap
       → length sl′ ≡ length sl → length sn′ ≡ length sn → length el′ ≡ length el → length en′ ≡ length en → length states′ ≡ length states
       → standingOf start sl′ sn′ el′ en′ states′ r ≡ turnOf q i (standingOf start sl sn el en states p) → Foreseen q (standingOf start sl′ sn′ el′ en′ states′ r) r
-      → Going q′ (i + 1) sl′ sn′ el′ en′ states′ r
-  going-on q′ sl′ sn′ el′ en′ states′ e own beyond l1 l2 l3 l4 l5 t f =
+      → Going q′ cap (i + 1) sl′ sn′ el′ en′ states′ r
+  going-on q′ sl′ sn′ el′ en′ states′ e c l1 l2 l3 l4 l5 t f =
       rw (sym e) (record {
-        few = omega (arith, turns-left (g .sound) (g .way) own beyond);
+        few = omega (arith, within-cap (g .sound) (g .way) cap c);
         sound = g .sound;
         long = kept-long (g .long) l1 l2 l3 l4 l5;
-        way = underway-next (g .sound) (g .way) own beyond t f;
+        way = underway-next (g .sound) (g .way) cap c t f;
       })
 
-  -- a side has none: the search has ended
-  pub over-own : (q′ : Query) → q ≡ q′ → (q′ .start ≡ q′ .end → ⊥) → p .own ≡ Nothing → remainsOf (standingOf start sl sn el en states p) ≡ remainsOf (endState q′)
-  over-own q′ e h own = ended-last (rw e at (g .sound)) h (rw e at (over-at-start (g .sound) (g .way) own (g .few)))
+  -- no more turns are made, and the search has stopped at the cap: it has ended, or the turns are used up
+  pub stops-ended : (q′ : Query) → q ≡ q′ → q′ .start ≢ q′ .end → Ended ≡ courseOf (meant (p .own)) (meant (p .other)) i cap
+      → StoppedAt q′ cap (standingOf start sl sn el en states p) (record { progress = p; over = true })
+  stops-ended q′ e d c =
+      rw (sym e) (let s = stopped-ended (g .sound) (g .way) cap (rw (sym e) at d) (g .few) c in
+      record { here = s .0; whether-over = s .1; floors = floors-of (g .sound) (g .way) refl refl })
 
-  pub over-other : (q′ : Query) → q ≡ q′ → (q′ .start ≡ q′ .end → ⊥) → p .other ≡ Nothing → remainsOf (standingOf start sl sn el en states p) ≡ remainsOf (endState q′)
-  over-other q′ e h beyond = ended-last (rw e at (g .sound)) h (rw e at (over-at-end (g .sound) (g .way) beyond (g .few)))
+  pub stops-used-up : (q′ : Query) → q ≡ q′ → q′ .start ≢ q′ .end → UsedUp ≡ courseOf (meant (p .own)) (meant (p .other)) i cap
+      → StoppedAt q′ cap (standingOf start sl sn el en states p) (record { progress = p; over = false })
+  stops-used-up q′ e d c =
+      rw (sym e) (let s = stopped-used-up (g .sound) (g .way) cap (rw (sym e) at d) (g .few) c in
+      record { here = s .0; whether-over = s .1; floors = floors-of (g .sound) (g .way) refl refl })

@@ -17,7 +17,7 @@ use Rattle.nba.specs.State.{missing, noNode}
 use Rattle.nba.specs.Search.{beginningHalf, atBeginning, lower, leastBelow, candidate, ended, rejected, arcsBelow, arcsOf, withLabel, withMeeting, lookAt, lookAtEach, halfAfter, afterReach, rejecting, opening, turn, turnUnlessEnded, afterTurns, atOnce, stateAt, endState}
 use Rattle.nba.specs.Result.{trail, turnedBefore, pathThrough, pathOf, countOf, figuresIn, answerAt, found}
 use Rattle.search.specs.Tables.{atFront}
-use Rattle.search.specs.Promise.{lentLists, shownPath, listsAfter, Left, left, queried}
+use Rattle.search.specs.Promise.{lentLists, shownPath, listsAt, Left, left, queried}
 
 -- a query on the lists below, and what it leaves
 pub record LeavingCase : Type 0 where
@@ -59,5 +59,5 @@ leaving c = record { asked = c .asked; leaves = queried (c .asked) (lentLists ol
 
 -- ---- the proof, by computation
 pub cases-left : map leaving leaving-cases ≡ leaving-cases
-unfolding leaving queried listsAfter shownPath atFront found answerAt figuresIn countOf pathOf pathThrough turnedBefore trail stateAt atOnce afterTurns turnUnlessEnded turn opening rejecting afterReach halfAfter lookAtEach lookAt withMeeting withLabel arcsOf arcsBelow rejected ended candidate leastBelow lower atBeginning beginningHalf sideOfTurn isArc keepsRule queryVerdict firstRefusal mapRows tripRows listRows breaksRule badPotential outOfRange badArc badRoom badPattern badEntry badStartOrEnd badPotentialLists badArcLists badNodeCount lowest
+unfolding leaving queried listsAt shownPath atFront found answerAt figuresIn countOf pathOf pathThrough turnedBefore trail stateAt atOnce afterTurns turnUnlessEnded turn opening rejecting afterReach halfAfter lookAtEach lookAt withMeeting withLabel arcsOf arcsBelow rejected ended candidate leastBelow lower atBeginning beginningHalf sideOfTurn isArc keepsRule queryVerdict firstRefusal mapRows tripRows listRows breaksRule badPotential outOfRange badArc badRoom badPattern badEntry badStartOrEnd badPotentialLists badArcLists badNodeCount lowest
 cases-left = refl

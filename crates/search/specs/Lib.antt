@@ -9,3 +9,4 @@ pub mod Cases
 -- Why.
 pub mod TablesLaws
 pub mod DemandLaws
+pub mod CappedLaws

@@ -10,12 +10,12 @@ use Rattle.network.specs.declared.Answer.{Answer}
 use Rattle.network.specs.Network.{Side, start, end, other, Network, mostNodes}
 use Rattle.network.specs.Query.{Query, query, sideOfTurn}
 use Rattle.nba.specs.State.{State, state}
-use Rattle.nba.specs.Search.{node, candidate, atBeginning, endState}
-use Rattle.nba.specs.Result.{found}
+use Rattle.nba.specs.Search.{node, candidate, atBeginning, stateAt}
+use Rattle.nba.specs.Result.{over, foundAt}
 use Rattle.nba.specs.Why.ByMark.{turnByMark, afterTurnsByMark}
-use Rattle.turn.specs.declared.Best.{Best}
 use Rattle.turn.specs.declared.Progress.{Progress}
 use Rattle.turn.specs.Turn.{meant}
+use Rattle.search.specs.declared.run.Stop.{Stop}
 use Rattle.search.specs.Tables.{atFront}
 use Rattle.search.specs.Promise.{LentLists, shownPath}
 
@@ -85,41 +85,11 @@ pub record TurnsMade (q : Query) (i : ℕ) (st : State) (p : Progress) : Type 0 
   pub here : st ≡ afterTurnsByMark q i
   pub foreseen : Foreseen q st p
 
--- the state after as many turns as there are nodes
-abbrev pub lastState : Query → State
-lastState q = afterTurnsByMark q (q .network .nodes)
-
--- what remains of a search: its tables, its best length and its meeting node, all of a state but the floors
-pub record Remains : Type 0 where
-  pub start-labels : List ℕ
-  pub start-neighbours : List ℕ
-  pub end-labels : List ℕ
-  pub end-neighbours : List ℕ
-  pub states : List ℕ
-  pub best : ℕ
-  pub meeting : ℕ
-
-abbrev pub remains : List ℕ → List ℕ → List ℕ → List ℕ → List ℕ → Best → Remains
-remains sl sn el en states best = record {
-  start-labels = sl;
-  start-neighbours = sn;
-  end-labels = el;
-  end-neighbours = en;
-  states = states;
-  best = best .length;
-  meeting = best .node;
-}
-
-abbrev pub remainsOf : State → Remains
-remainsOf st = record {
-  start-labels = st .start-half .labels;
-  start-neighbours = st .start-half .neighbours;
-  end-labels = st .end-half .labels;
-  end-neighbours = st .end-half .neighbours;
-  states = st .states;
-  best = st .best;
-  meeting = st .meeting;
-}
+-- a search has stopped at a cap: it is in its state there, which says whether it is over
+pub record StoppedAt (q : Query) (cap : ℕ) (st : State) (r : Stop) : Type 0 where
+  pub here : st ≡ stateAt q cap
+  pub whether-over : r .over ≡ over q (stateAt q cap)
+  pub floors : Floors (r .progress)
 
 -- the lists are the tables of a state
 pub record Filled (st : State) (sl sn el en marks : List ℕ) : Type 0 where
@@ -129,9 +99,9 @@ pub record Filled (st : State) (sl sn el en marks : List ℕ) : Type 0 where
   pub end-neighbours : en ≡ st .end-half .neighbours
   pub states : marks ≡ st .states
 
--- a search is done on work lists with exactly one entry a node: its answer, the tables of the end state, and the path before
--- what stood in the path list beyond it
-pub record SearchedInPlace (q : Query) (path : List ℕ) (r : Answer) (after : LentLists) : Type 0 where
-  pub answer : r ≡ found q
-  pub tables : Filled (endState q) (after .start-labels) (after .start-neighbours) (after .end-labels) (after .end-neighbours) (after .states)
-  pub path-shown : after .path ≡ atFront (shownPath q (endState q)) path
+-- a search at a cap is done on work lists with exactly one entry a node: its answer, the tables of the state there, and the path
+-- before what stood in the path list beyond it
+pub record SearchedInPlace (q : Query) (cap : ℕ) (path : List ℕ) (r : Answer) (after : LentLists) : Type 0 where
+  pub answer : r ≡ foundAt q cap
+  pub tables : Filled (stateAt q cap) (after .start-labels) (after .start-neighbours) (after .end-labels) (after .end-neighbours) (after .states)
+  pub path-shown : after .path ≡ atFront (shownPath q (stateAt q cap)) path

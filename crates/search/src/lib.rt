@@ -1,6 +1,6 @@
 // The route query over lists that the caller lends. It tests the query by the table of docs/RULES.md, "Refusal numbers";
 // a refusal comes before anything is written. An accepted query is searched as `nba` defines it, turn for turn, on the first
-// entries of the lists.
+// entries of the lists, to its end or as far as a cap on its turns.
 mod run;
 mod tables;
 
@@ -14,11 +14,12 @@ ghost use Rattle.network.specs.Given.{Sound};
 ghost use Rattle.network.specs.Network.{network};
 ghost use Rattle.network.specs.Query.{query as asked};
 ghost use Rattle.network.specs.Refusal.{queryVerdict};
-ghost use Rattle.search.specs.Demands.{QueryKept};
-ghost use Rattle.search.specs.Promise.{left, lengths, lentLists, searchLeaves};
+ghost use Rattle.search.specs.Demands.{CappedKept, QueryKept};
+ghost use Rattle.search.specs.Promise.{left, lengths, lentLists, searchLeavesAt};
 ghost use Rattle.search.specs.Run.{Long, SearchedInPlace};
 
-// The search of an accepted query, on lists with exactly one entry a node and a path list with room for as many.
+// The search of an accepted query at a cap, on lists with exactly one entry a node and a path list with room for as many. With no
+// best length the path list is left alone.
 fn searched(
     tails: &[u16],
     heads: &[u16],
@@ -28,6 +29,7 @@ fn searched(
     start: u16,
     end: u16,
     pattern: &[u8],
+    cap: u16,
     start_labels: &mut [u32],
     start_neighbours: &mut [u16],
     end_labels: &mut [u32],
@@ -40,11 +42,12 @@ fn searched(
     requires { ⌜ length (now states) ≤ length (now path) ⌝ }
     ensures { λ r. ⌜ SearchedInPlace
         (asked (network (length (now (states .entry))) (now (tails .entry)) (now (heads .entry)) (now (weights .entry))) (now (forward .entry)) (now (backward .entry)) start end (now (pattern .entry)))
+        cap
         (now (path .entry))
         r
         (lentLists (now («start_labels» .exit)) (now («start_neighbours» .exit)) (now («end_labels» .exit)) (now («end_neighbours» .exit)) (now (states .exit)) (now (path .exit))) ⌝ }
 {
-    let best = run::find(
+    let stop = run::find(
         tails,
         heads,
         weights,
@@ -53,27 +56,33 @@ fn searched(
         start,
         end,
         pattern,
+        cap as usize,
         start_labels,
         start_neighbours,
         end_labels,
         end_neighbours,
         states,
     );
-    let length = best.length;
-    let meeting = best.node;
+    let over = stop.over;
+    let p = stop.progress;
+    let length = p.length;
+    let meeting = p.meeting;
     let figures = tables::count_states(states);
     if turn::MISSING <= length {
-        return Answer::NoRoute(figures);
+        return cap::without_length(over, figures);
     }
     let nodes = tables::write_path(path, start_neighbours, end_neighbours, start, end, meeting);
-    Answer::Route {
+    let excess = cap::excess(
         length,
-        nodes,
-        figures,
-    }
+        p.floor,
+        forward[end as usize],
+        p.beyond,
+        backward[start as usize],
+    );
+    cap::with_length(over, length, excess, nodes, figures)
 }
 
-// The search of a query that is accepted already: for a caller that has tested its network once and each trip by itself.
+// The search of a query that is accepted already, at a cap: for a caller that has tested its network once and each trip by itself.
 // What it asks is exactly that the table accepts the query.
 pub fn search_accepted(
     nodes: u16,
@@ -85,6 +94,7 @@ pub fn search_accepted(
     start: u16,
     end: u16,
     pattern: &[u8],
+    cap: u16,
     start_labels: &mut [u32],
     start_neighbours: &mut [u16],
     end_labels: &mut [u32],
@@ -98,8 +108,9 @@ pub fn search_accepted(
         ≡ Verdict.Accepted ⌝ }
     ensures { λ r. ⌜ left r
         (lentLists (now («start_labels» .exit)) (now («start_neighbours» .exit)) (now («end_labels» .exit)) (now («end_neighbours» .exit)) (now (states .exit)) (now (path .exit)))
-        ≡ searchLeaves
+        ≡ searchLeavesAt
         (asked (network nodes (now (tails .entry)) (now (heads .entry)) (now (weights .entry))) (now (forward .entry)) (now (backward .entry)) start end (now (pattern .entry)))
+        cap
         (lentLists (now («start_labels» .entry)) (now («start_neighbours» .entry)) (now («end_labels» .entry)) (now («end_neighbours» .entry)) (now (states .entry)) (now (path .entry))) ⌝ }
 {
     let n = nodes as usize;
@@ -112,6 +123,7 @@ pub fn search_accepted(
         start,
         end,
         pattern,
+        cap,
         &mut start_labels[..n],
         &mut start_neighbours[..n],
         &mut end_labels[..n],
@@ -121,8 +133,8 @@ pub fn search_accepted(
     )
 }
 
-// The query: tested by the whole table, and searched if it is accepted.
-pub fn query(
+// The query at a cap: tested by the whole table, and searched if it is accepted.
+pub fn capped_query(
     nodes: u16,
     tails: &[u16],
     heads: &[u16],
@@ -132,6 +144,7 @@ pub fn query(
     start: u16,
     end: u16,
     pattern: &[u8],
+    cap: u16,
     start_labels: &mut [u32],
     start_neighbours: &mut [u16],
     end_labels: &mut [u32],
@@ -139,8 +152,9 @@ pub fn query(
     states: &mut [u8],
     path: &mut [u16],
 ) -> Answer
-    ensures { λ r. ⌜ QueryKept
+    ensures { λ r. ⌜ CappedKept
         (asked (network nodes (now (tails .entry)) (now (heads .entry)) (now (weights .entry))) (now (forward .entry)) (now (backward .entry)) start end (now (pattern .entry)))
+        cap
         (lentLists (now («start_labels» .entry)) (now («start_neighbours» .entry)) (now («end_labels» .entry)) (now («end_neighbours» .entry)) (now (states .entry)) (now (path .entry)))
         (lentLists (now («start_labels» .exit)) (now («start_neighbours» .exit)) (now («end_labels» .exit)) (now («end_neighbours» .exit)) (now (states .exit)) (now (path .exit)))
         r ⌝ }
@@ -178,6 +192,7 @@ pub fn query(
                 start,
                 end,
                 pattern,
+                cap,
                 start_labels,
                 start_neighbours,
                 end_labels,
@@ -187,4 +202,48 @@ pub fn query(
             )
         }
     }
+}
+
+// The query without a cap: no search makes more turns than there are nodes.
+pub fn query(
+    nodes: u16,
+    tails: &[u16],
+    heads: &[u16],
+    weights: &[u32],
+    forward: &[i32],
+    backward: &[i32],
+    start: u16,
+    end: u16,
+    pattern: &[u8],
+    start_labels: &mut [u32],
+    start_neighbours: &mut [u16],
+    end_labels: &mut [u32],
+    end_neighbours: &mut [u16],
+    states: &mut [u8],
+    path: &mut [u16],
+) -> Answer
+    ensures { λ r. ⌜ QueryKept
+        (asked (network nodes (now (tails .entry)) (now (heads .entry)) (now (weights .entry))) (now (forward .entry)) (now (backward .entry)) start end (now (pattern .entry)))
+        (lentLists (now («start_labels» .entry)) (now («start_neighbours» .entry)) (now («end_labels» .entry)) (now («end_neighbours» .entry)) (now (states .entry)) (now (path .entry)))
+        (lentLists (now («start_labels» .exit)) (now («start_neighbours» .exit)) (now («end_labels» .exit)) (now («end_neighbours» .exit)) (now (states .exit)) (now (path .exit)))
+        r ⌝ }
+{
+    capped_query(
+        nodes,
+        tails,
+        heads,
+        weights,
+        forward,
+        backward,
+        start,
+        end,
+        pattern,
+        nodes,
+        start_labels,
+        start_neighbours,
+        end_labels,
+        end_neighbours,
+        states,
+        path,
+    )
 }

@@ -1,17 +1,21 @@
-// The turns of a search (docs/RULES.md, "The search, turn by turn"), one after the other, from the beginning to the end, on
-// lists with exactly one entry a node. The pattern says whose turn it is; a turn is made by `turn::side_turn` on the lists
+// The turns of a search (docs/RULES.md, "The search, turn by turn"), one after the other, from the beginning to the end or to the
+// last turn of a cap, on lists with exactly one entry a node. The pattern says whose turn it is; a turn is made by `turn::side_turn` on the lists
 // of that side.
 ghost use mathlib.Core.Path.{_≡_};
 ghost use lib.ListN.{length};
 ghost use Rattle.network.specs.Given.{Sound};
 ghost use Rattle.network.specs.Network.{network};
 ghost use Rattle.network.specs.Query.{query};
-ghost use Rattle.nba.specs.Search.{endState};
-ghost use Rattle.search.specs.Run.{Beginning, Begun, Foreseen, Long, Taking, remains, remainsOf, standing, swappedOf, turnOf};
+ghost use Rattle.search.specs.Run.{Beginning, Begun, Foreseen, Long, StoppedAt, Taking, standing, swappedOf, turnOf};
 use crate::tables;
-use turn::Best;
-use turn::Candidate;
+use cap::Course;
 use turn::Progress;
+
+// Where a search stopped, and whether it is over: at its end, or at a cap before it.
+pub struct Stop {
+    pub progress: Progress,
+    pub over: bool,
+}
 
 // The progress seen from the other side.
 fn swapped(p: Progress) -> Progress
@@ -127,8 +131,9 @@ fn begin(
     }
 }
 
-// The tables at the end of a search. Start equal to end is a route of length 0 with the tables as at the beginning.
-// Otherwise turns are made until a side has no labelled undecided node: at most as many as there are nodes.
+// The search as far as a cap. Start equal to end is a route of length 0 with the tables as at the beginning, at any cap.
+// Otherwise turns are made until a side has no labelled undecided node, which is after at most as many turns as there are nodes,
+// or until the turns of the cap are used up.
 pub fn find(
     tails: &[u16],
     heads: &[u16],
@@ -138,15 +143,16 @@ pub fn find(
     start: u16,
     end: u16,
     pattern: &[u8],
+    cap: usize,
     start_labels: &mut [u32],
     start_neighbours: &mut [u16],
     end_labels: &mut [u32],
     end_neighbours: &mut [u16],
     states: &mut [u8],
-) -> Best
+) -> Stop
     requires { ⌜ Sound (query (network (length (now states)) (now tails) (now heads) (now weights)) (now forward) (now backward) start end (now pattern)) ⌝ }
     requires { ⌜ Long (length (now states)) (now «start_labels») (now «start_neighbours») (now «end_labels») (now «end_neighbours») (now states) ⌝ }
-    ensures { λ r. ⌜ remains (now («start_labels» .exit)) (now («start_neighbours» .exit)) (now («end_labels» .exit)) (now («end_neighbours» .exit)) (now (states .exit)) r ≡ remainsOf (endState (query (network (length (now (states .entry))) (now (tails .entry)) (now (heads .entry)) (now (weights .entry))) (now (forward .entry)) (now (backward .entry)) start end (now (pattern .entry)))) ⌝ }
+    ensures { λ r. ⌜ StoppedAt (query (network (length (now (states .entry))) (now (tails .entry)) (now (heads .entry)) (now (weights .entry))) (now (forward .entry)) (now (backward .entry)) start end (now (pattern .entry))) cap (standing (now («start_labels» .exit)) (now («start_neighbours» .exit)) (now («end_labels» .exit)) (now («end_neighbours» .exit)) (now (states .exit)) (r .progress)) r ⌝ }
 {
     let mut p = begin(
         forward,
@@ -160,44 +166,53 @@ pub fn find(
         states,
     );
     if start == end {
-        return Best {
-            length: 0,
-            node: start,
+        p.length = 0;
+        p.meeting = start;
+        return Stop {
+            progress: p,
+            over: true,
         };
     }
     let mut turns: usize = 0;
     'turns: loop {
         let own = p.own;
-        let Candidate::Node(a, _) = own else {
-            break 'turns;
-        };
         let other = p.other;
-        let Candidate::Node(b, _) = other else {
-            break 'turns;
-        };
-        p = next_turn(
-            tails,
-            heads,
-            weights,
-            forward,
-            backward,
-            start,
-            end,
-            pattern,
-            start_labels,
-            start_neighbours,
-            end_labels,
-            end_neighbours,
-            states,
-            turns,
-            a,
-            b,
-            p,
-        );
-        turns += 1;
-    }
-    Best {
-        length: p.length,
-        node: p.meeting,
+        let course = cap::next(own, other, turns, cap);
+        match course {
+            Course::Turn(a, b) => {
+                p = next_turn(
+                    tails,
+                    heads,
+                    weights,
+                    forward,
+                    backward,
+                    start,
+                    end,
+                    pattern,
+                    start_labels,
+                    start_neighbours,
+                    end_labels,
+                    end_neighbours,
+                    states,
+                    turns,
+                    a,
+                    b,
+                    p,
+                );
+                turns += 1;
+            }
+            Course::Ended => {
+                return Stop {
+                    progress: p,
+                    over: true,
+                };
+            }
+            Course::UsedUp => {
+                return Stop {
+                    progress: p,
+                    over: false,
+                };
+            }
+        }
     }
 }

@@ -110,7 +110,7 @@ returns c =
     let entry = c .before .before .before .before .before .before .before .before .before .before .before .before .before .before .before .before .before .before .before .before .before .before .before .before .before .before .before .before .before in
     let searched = c .before .before .before .before .before .before .before .before .before .before .before .before .searched in
     let l = length-take-le (entry .args .nodes) (entry .args .states .now) (enough entry .for-states) in
-    cut-left (asked entry) (lent entry) (rw l at (searched .ensures))
+    cut-left (asked entry) (entry .args .cap) (lent entry) (rw l at (searched .ensures))
 
 pub search-accepted-spec : {M : Type 1} → statement M
 search-accepted-spec =

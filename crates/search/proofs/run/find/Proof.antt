@@ -1,6 +1,6 @@
 -- `find` meets its contract: what `begin` leaves is the state of step 1, which is the end if start is end; otherwise, before each
--- turn, the lists stand for the state after as many turns as were made, and a search that goes on has made fewer turns than
--- there are nodes. Assumes nothing.
+-- turn, the lists stand for the state after as many turns as were made, which the cap allows, and a search that goes on has made
+-- fewer turns than there are nodes. Assumes nothing.
 use Prim.Native.Nat.{ℕ, _-_}
 use mathlib.Core.Path.{_≡_, refl, sym, ap, _∙_}
 use native.Mathlib.Omega.{arith}
@@ -8,17 +8,17 @@ use lib.ListN.{length}
 use borrow.Author.Needs.{needs}
 use Rattle.network.specs.Network.{start, end, network}
 use Rattle.network.specs.Query.{Query, query}
-use Rattle.search.proofs.RunLaws.{Going, begun-underway, ended-at-once, both-take, turns-left, going-on, over-own, over-other, kept-long}
+use Rattle.search.proofs.RunLaws.{Going, begun-underway, over-at-once, both-take, turns-left, going-on, stops-ended, stops-used-up, kept-long}
 use Rattle.search.proofs.run.find.Statement.{statement}
 use Rattle.search.proofs.run.find.Tie as tie
 
 abbrev Inv-turns : tie.InvT-turns
-Inv-turns tails heads weights forward backward s e pattern start-labels₀ start-neighbours₀ end-labels₀ end-neighbours₀ states₀ p₀ turns₀ start-labels start-neighbours end-labels end-neighbours states p turns =
+Inv-turns tails heads weights forward backward s e pattern cap start-labels₀ start-neighbours₀ end-labels₀ end-neighbours₀ states₀ p₀ turns₀ start-labels start-neighbours end-labels end-neighbours states p turns =
     (length states ≡ length states₀)
-    × Going (query (network (length states) tails heads weights) forward backward s e pattern) turns start-labels start-neighbours end-labels end-neighbours states p
+    × Going (query (network (length states) tails heads weights) forward backward s e pattern) cap turns start-labels start-neighbours end-labels end-neighbours states p
 
 abbrev μ-turns : tie.MeasureT-turns
-μ-turns tails heads weights forward backward s e pattern start-labels₀ start-neighbours₀ end-labels₀ end-neighbours₀ states₀ p₀ turns₀ start-labels start-neighbours end-labels end-neighbours states p turns =
+μ-turns tails heads weights forward backward s e pattern cap start-labels₀ start-neighbours₀ end-labels₀ end-neighbours₀ states₀ p₀ turns₀ start-labels start-neighbours end-labels end-neighbours states p turns =
     length states₀ - turns
 
 -- the query at entry, of a network with n nodes
@@ -68,7 +68,7 @@ returns : tie.Need-returns Inv-turns μ-turns
 returns c =
     let entry = c .before .before .before .before .before .before .before .before .before .before .before .before .before .before .before .before .before .before .before .before .before .before .before .before .before .before in
     let begin = c .before .before .before .before .before .before .before .before .before .before .before .begin in
-    ended-at-once (entry .pre .0) (begin .ensures) refl (c .if1 .taken)
+    over-at-once (entry .pre .0) (begin .ensures) (entry .args .cap) refl (c .if1 .taken) refl refl refl refl
 
 turns-holds : tie.Need-turns-holds Inv-turns μ-turns
 turns-holds c =
@@ -89,46 +89,47 @@ turns-holds c =
           }),
     )
 
-enum-known-own : tie.Need-enum-known-own Inv-turns μ-turns
-enum-known-own c = search needs
+next-requires : tie.Need-next-requires Inv-turns μ-turns
+next-requires c κs = search needs
 
-enum-told : tie.Need-enum-told Inv-turns μ-turns
-enum-told c = search needs
-
-enum-known-other : tie.Need-enum-known-other Inv-turns μ-turns
-enum-known-other c = search needs
-
-enum-told-2 : tie.Need-enum-told-2 Inv-turns μ-turns
-enum-told-2 c = search needs
+enum-known-course : tie.Need-enum-known-course Inv-turns μ-turns
+enum-known-course c = search needs
 
 next-turn-requires : tie.Need-next-turn-requires Inv-turns μ-turns
 next-turn-requires c κs =
-    let turns = c .before .before .before .before .before .before .before .before .before .before .before .turns in
-    let own = c .before .before .before .before .before .before .before .before .before .own in
-    let other = c .before .before .before .before .before .before .other in
+    let entry = c .before .before .before .before .before .before .before .before .before .before .before .before .before .before .before .before .before .before .before .before .before .before .before .before .before .before .before .before .before .before .before .before .before .before .before .before in
+    let turns = c .before .before .before .before .before .before .before .before .before .turns in
+    let next = c .before .before .before .before .before .before .before .before .next in
+    let course = c .before .before .before .before .before .before .course in
     let w = turns .inv .1 in
-    (w .sound, (w .long, both-take (w .sound) (w .way) (own .given .1) (other .given .1) refl refl))
+    (w .sound, (w .long, both-take (w .sound) (w .way) (entry .args .cap) (sym (course .given .1) ∙ next .ensures) refl refl))
 
 add-turns : tie.Need-add-turns Inv-turns μ-turns
 add-turns c =
-    let turns = c .before .before .before .before .before .before .before .before .before .before .before .before .before .before .before .before .before .before .before .before .before .before .turns in
-    let own = c .before .before .before .before .before .before .before .before .before .before .before .before .before .before .before .before .before .before .before .before .own in
-    let other = c .before .before .before .before .before .before .before .before .before .before .before .before .before .before .before .before .before .other in
-    omega (arith, turns .inv .1 .sound .sized .few-nodes, turns-left (turns .inv .1 .sound) (turns .inv .1 .way) (own .given .1) (other .given .1))
+    let entry = c .before .before .before .before .before .before .before .before .before .before .before .before .before .before .before .before .before .before .before .before .before .before .before .before .before .before .before .before .before .before .before .before .before .before .before .before .before .before .before .before .before .before .before .before .before .before .before in
+    let turns = c .before .before .before .before .before .before .before .before .before .before .before .before .before .before .before .before .before .before .before .before .turns in
+    let next = c .before .before .before .before .before .before .before .before .before .before .before .before .before .before .before .before .before .before .before .next in
+    let course = c .before .before .before .before .before .before .before .before .before .before .before .before .before .before .before .before .before .course in
+    omega (
+      arith,
+      turns .inv .1 .sound .sized .few-nodes,
+      turns-left (turns .inv .1 .sound) (turns .inv .1 .way) (entry .args .cap) (sym (course .given .1) ∙ next .ensures),
+    )
 
 turns-less : tie.Need-turns-less Inv-turns μ-turns
 turns-less c =
-    let turns = c .before .before .before .before .before .before .before .before .before .before .before .before .before .before .before .before .before .before .before .before .before .before .turns in
-    let own = c .before .before .before .before .before .before .before .before .before .before .before .before .before .before .before .before .before .before .before .before .own in
-    let other = c .before .before .before .before .before .before .before .before .before .before .before .before .before .before .before .before .before .other in
-    omega (arith, turns .inv .0, turns-left (turns .inv .1 .sound) (turns .inv .1 .way) (own .given .1) (other .given .1))
+    let entry = c .before .before .before .before .before .before .before .before .before .before .before .before .before .before .before .before .before .before .before .before .before .before .before .before .before .before .before .before .before .before .before .before .before .before .before .before .before .before .before .before .before .before .before .before .before .before .before in
+    let turns = c .before .before .before .before .before .before .before .before .before .before .before .before .before .before .before .before .before .before .before .before .turns in
+    let next = c .before .before .before .before .before .before .before .before .before .before .before .before .before .before .before .before .before .before .before .next in
+    let course = c .before .before .before .before .before .before .before .before .before .before .before .before .before .before .before .before .before .course in
+    omega (arith, turns .inv .0, turns-left (turns .inv .1 .sound) (turns .inv .1 .way) (entry .args .cap) (sym (course .given .1) ∙ next .ensures))
 
 turns-again : tie.Need-turns-again Inv-turns μ-turns
 turns-again c =
-    let entry = c .before .before .before .before .before .before .before .before .before .before .before .before .before .before .before .before .before .before .before .before .before .before .before .before .before .before .before .before .before .before .before .before .before .before .before .before .before .before .before .before .before .before .before .before .before .before .before .before .before in
-    let turns = c .before .before .before .before .before .before .before .before .before .before .before .before .before .before .before .before .before .before .before .before .before .before .turns in
-    let own = c .before .before .before .before .before .before .before .before .before .before .before .before .before .before .before .before .before .before .before .before .own in
-    let other = c .before .before .before .before .before .before .before .before .before .before .before .before .before .before .before .before .before .other in
+    let entry = c .before .before .before .before .before .before .before .before .before .before .before .before .before .before .before .before .before .before .before .before .before .before .before .before .before .before .before .before .before .before .before .before .before .before .before .before .before .before .before .before .before .before .before .before .before .before .before in
+    let turns = c .before .before .before .before .before .before .before .before .before .before .before .before .before .before .before .before .before .before .before .before .turns in
+    let next = c .before .before .before .before .before .before .before .before .before .before .before .before .before .before .before .before .before .before .before .next in
+    let course = c .before .before .before .before .before .before .before .before .before .before .before .before .before .before .before .before .before .course in
     let next-turn = c .before .before .before .before .before .before .before .before .before .before .next-turn in
     let start-labels2 = c .before .before .before .before .before .before .before .before .before .start-labels2 in
     let start-neighbours2 = c .before .before .before .before .before .before .before .start-neighbours2 in
@@ -141,10 +142,13 @@ turns-again c =
           {states = turns .states} {p = turns .p}
           (turns .inv .1)
           _ _ _ _ _ _
-          (ap (asked entry) (sym (states2 .given))) (own .given .1) (other .given .1)
+          (ap (asked entry) (sym (states2 .given))) (sym (course .given .1) ∙ next .ensures)
           (start-labels2 .given) (start-neighbours2 .given) (end-labels2 .given) (end-neighbours2 .given) (states2 .given)
           (next-turn .ensures .0) (next-turn .ensures .1),
     )
+
+enum-told : tie.Need-enum-told Inv-turns μ-turns
+enum-told c = search needs
 
 -- at the head of the turns each list is as long as it was lent
 as-lent : (c : tie.At-turns Inv-turns μ-turns) →
@@ -169,83 +173,88 @@ as-lent c =
 
 same-length-6 : tie.Need-same-length-6 Inv-turns μ-turns
 same-length-6 c =
-    let at-turns = c .before .before in
+    let at-turns = c .before .before .before in
     as-lent at-turns .0
 
 same-length-7 : tie.Need-same-length-7 Inv-turns μ-turns
 same-length-7 c =
-    let at-turns = c .before .before in
+    let at-turns = c .before .before .before in
     as-lent at-turns .1
 
 same-length-8 : tie.Need-same-length-8 Inv-turns μ-turns
 same-length-8 c =
-    let at-turns = c .before .before in
+    let at-turns = c .before .before .before in
     as-lent at-turns .2
 
 same-length-9 : tie.Need-same-length-9 Inv-turns μ-turns
 same-length-9 c =
-    let at-turns = c .before .before in
+    let at-turns = c .before .before .before in
     as-lent at-turns .3
 
 same-length-10 : tie.Need-same-length-10 Inv-turns μ-turns
 same-length-10 c =
-    let at-turns = c .before .before in
+    let at-turns = c .before .before .before in
     as-lent at-turns .4
 
 returns-2 : tie.Need-returns-2 Inv-turns μ-turns
 returns-2 c =
-    let entry = c .before .before .before .before .before .before .before .before .before .before .before .before .before .before .before .before .before .before .before .before .before .before .before .before .before .before .before .before .before in
-    let if1 = c .before .before .before .if1 in
-    let turns = c .before .before .turns in
-    let at-turns = c .before .before in
-    over-own {q = asked entry (length (turns .states))} {i = turns .turns}
+    let entry = c .before .before .before .before .before .before .before .before .before .before .before .before .before .before .before .before .before .before .before .before .before .before .before .before .before .before .before .before .before .before in
+    let if1 = c .before .before .before .before .if1 in
+    let turns = c .before .before .before .turns in
+    let at-turns = c .before .before .before in
+    let next = c .before .before .next in
+    stops-ended {q = asked entry (length (turns .states))} {i = turns .turns}
     {sl = turns .start-labels} {sn = turns .start-neighbours} {el = turns .end-labels} {en = turns .end-neighbours}
     {states = turns .states} {p = turns .p}
     (turns .inv .1)
     (asked entry (length (entry .args .states .now)))
     (ap (asked entry) (as-lent at-turns .4))
     (if1 .left)
-    (c .enum-told .given .1)
+    (sym (c .enum-told .given .1) ∙ next .ensures)
+
+enum-told-2 : tie.Need-enum-told-2 Inv-turns μ-turns
+enum-told-2 c = search needs
 
 same-length-11 : tie.Need-same-length-11 Inv-turns μ-turns
 same-length-11 c =
-    let at-turns = c .before .before .before .before .before in
+    let at-turns = c .before .before .before in
     as-lent at-turns .0
 
 same-length-12 : tie.Need-same-length-12 Inv-turns μ-turns
 same-length-12 c =
-    let at-turns = c .before .before .before .before .before in
+    let at-turns = c .before .before .before in
     as-lent at-turns .1
 
 same-length-13 : tie.Need-same-length-13 Inv-turns μ-turns
 same-length-13 c =
-    let at-turns = c .before .before .before .before .before in
+    let at-turns = c .before .before .before in
     as-lent at-turns .2
 
 same-length-14 : tie.Need-same-length-14 Inv-turns μ-turns
 same-length-14 c =
-    let at-turns = c .before .before .before .before .before in
+    let at-turns = c .before .before .before in
     as-lent at-turns .3
 
 same-length-15 : tie.Need-same-length-15 Inv-turns μ-turns
 same-length-15 c =
-    let at-turns = c .before .before .before .before .before in
+    let at-turns = c .before .before .before in
     as-lent at-turns .4
 
 returns-3 : tie.Need-returns-3 Inv-turns μ-turns
 returns-3 c =
-    let entry = c .before .before .before .before .before .before .before .before .before .before .before .before .before .before .before .before .before .before .before .before .before .before .before .before .before .before .before .before .before .before .before .before in
-    let if1 = c .before .before .before .before .before .before .if1 in
-    let turns = c .before .before .before .before .before .turns in
-    let at-turns = c .before .before .before .before .before in
-    over-other {q = asked entry (length (turns .states))} {i = turns .turns}
+    let entry = c .before .before .before .before .before .before .before .before .before .before .before .before .before .before .before .before .before .before .before .before .before .before .before .before .before .before .before .before .before .before in
+    let if1 = c .before .before .before .before .if1 in
+    let turns = c .before .before .before .turns in
+    let at-turns = c .before .before .before in
+    let next = c .before .before .next in
+    stops-used-up {q = asked entry (length (turns .states))} {i = turns .turns}
     {sl = turns .start-labels} {sn = turns .start-neighbours} {el = turns .end-labels} {en = turns .end-neighbours}
     {states = turns .states} {p = turns .p}
     (turns .inv .1)
     (asked entry (length (entry .args .states .now)))
     (ap (asked entry) (as-lent at-turns .4))
     (if1 .left)
-    (c .enum-told2 .given .1)
+    (sym (c .enum-told2 .given .1) ∙ next .ensures)
 
 pub find-spec : {M : Type 1} → statement M
 find-spec =
@@ -261,20 +270,20 @@ find-spec =
     same-length-5
     returns
     turns-holds
-    enum-known-own
-    enum-told
-    enum-known-other
-    enum-told-2
+    next-requires
+    enum-known-course
     next-turn-requires
     add-turns
     turns-less
     turns-again
+    enum-told
     same-length-6
     same-length-7
     same-length-8
     same-length-9
     same-length-10
     returns-2
+    enum-told-2
     same-length-11
     same-length-12
     same-length-13
