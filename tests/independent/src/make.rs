@@ -570,11 +570,11 @@ fn queries_for(random: &mut Random, nodes: usize, start: usize, end: usize, coun
     queries
 }
 
-/// Gives some of the queries a cap, and asks others again at several caps: none and few turns, those just before and
-/// just at the end of its search, more than it needs, any. They come in any order, and without a cap among them.
+/// Gives some of the queries a cap, none and few turns, those just before and just at the end of the search, more than
+/// it needs, or any. Where that is quick, the same trip is asked at several caps and perhaps without one, in any order.
 fn cap_some(random: &mut Random, district: &mut District) {
     let network = Network { nodes: district.nodes.clone(), arcs: arcs_of(&district.streets) };
-    let few = network.nodes.len() <= 300 && district.queries.len() <= 100;
+    let quick = network.nodes.len() <= 300 && district.queries.len() <= 100;
     let mut queries = Vec::new();
     for query in std::mem::take(&mut district.queries) {
         if random.chance(40) {
@@ -582,13 +582,12 @@ fn cap_some(random: &mut Random, district: &mut District) {
             continue;
         }
         let turns = model::answer(&network, &query, None).turns_taken as u16;
-        let mut caps: Vec<Option<u16>> = (0..if few { 2 + random.below(4) } else { 1 + random.below(2) })
-            .map(|_| Some(cap(random, turns)))
-            .collect();
-        if random.chance(50) {
-            caps.push(None);
+        let mut caps = vec![Some(cap(random, turns))];
+        if quick {
+            caps.extend((0..1 + random.below(4)).map(|_| Some(cap(random, turns))));
+            caps.extend(random.chance(50).then_some(None));
+            random.shuffle(&mut caps);
         }
-        random.shuffle(&mut caps);
         queries.extend(caps.into_iter().map(|cap| query.at(cap)));
     }
     district.queries = queries;
