@@ -4,8 +4,9 @@
     cases.py FOLDER
 
 For each case NAME.in, and what is expected of it: NAME.routeline (the program) and NAME.display (the C entry). The answers
-of P1 to P12 and of most bad inputs are written here by hand, from the rules (docs/RULES.md); the rest come from expected.py, which
-is written from them too. Where both are there they must agree. FOLDER/names lists the cases in order."""
+of P1 to P12, of cases at caps and of most bad inputs are written here by hand, from the rules (docs/RULES.md); the rest come from
+expected.py, which is written from them too. Where both are there they must agree. FOLDER/names lists the cases in order, and the
+folders of FOLDER have cases that are tried together."""
 import os
 import sys
 
