@@ -1,9 +1,10 @@
 /*
  * display.h: the route answer of a district file, for the unit's display.
  *
- * One function. It reads the bytes of a district file with exactly one query, with a cap on its turns (a 07 line) or
- * without (a 04 line), and writes the answer lines into a room that the caller lends. What it does is proved for every file and every room; how much stack it takes is measured. The archive
- * libdisplay.a is for x86-64 programs; it asks for memcpy and memset of the C library and for nothing else.
+ * One function. It reads the bytes of a district file with exactly one query, with a cap on its turns (a 07 line) or without
+ * (a 04 line), and writes the answer lines into a room that the caller lends. What it does is proved for every file and every
+ * room; how much stack it takes is measured. The archive libdisplay.a is for x86-64 programs; it asks for memcpy and memset of
+ * the C library and for nothing else.
  *
  * Compile and link a program, or make a shared object, which then exports the function:
  *   cc -std=c99 -Iinclude examples/display.c target/staticlib/libdisplay.a -o display
