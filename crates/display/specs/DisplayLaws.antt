@@ -1,6 +1,6 @@
 -- What the display's entry promises (docs/RULES.md, "The display"): lines that fit stand at the front of the room, the count is theirs,
 -- and the bytes beyond them are unchanged; lines that do not fit leave the room unchanged, and the count is 0. Nothing else is
--- admitted. And what the header says of the count: 0 means only that the lines do not fit, any other count is at least 13, and
+-- admitted. And what the header says of the count: 0 means only that the lines do not fit, any other count is at least 7, and
 -- there is a room that always suffices. Assumes nothing.
 use mathlib.Core.Path.{_≡_, sym, _∙_}
 use mathlib.Core.Bool.{true}
@@ -14,7 +14,7 @@ use borrow.Author.Tests.{le-leb, lt-leb}
 use Rattle.network.specs.CaseSplit.{by-lt}
 use Rattle.frames.specs.Room.{laid, placed, counted, Placed}
 use Rattle.district.specs.File.{displayAnswer}
-use Rattle.district.specs.Reader.{mostBytes, refusalBytes}
+use Rattle.district.specs.Reader.{mostBytes, refusalBytes, fewestBytes}
 use Rattle.district.specs.NeverEmpty.{answer-least}
 use Rattle.display.specs.GatherLaws.{display-bytes}
 
@@ -59,8 +59,8 @@ module _ (file room after : List ℕ) (count : ℕ) (p : Placed (displayAnswer f
     display-none,
   )
 
-  -- and lines that fit are at least a refusal's, 13 bytes
-  pub display-at-least : length (displayAnswer file) ≤ length room → refusalBytes ≤ count
+  -- and lines that fit are at least an undecided's, 7 bytes
+  pub display-at-least : length (displayAnswer file) ≤ length room → fewestBytes ≤ count
   display-at-least fits = omega (arith, display-count fits, answer-least true 1 file)
 
   -- in a room for the longest answer and a refusal's line, the header's DISPLAY_ROOM, every file's lines fit

@@ -29,7 +29,7 @@ module _ (g : Frame) where
       go (Arc t a w) l h = refl
       go (TwoWay t a w) l h = refl
       go (Potentials v a k) l h = refl
-      go (Query s e n) l h = refl
+      go (Query s e c n) l h = refl
       go Unsound l h = absurd (h refl)
 
 pub no-size : (f : File) (g : Frame) → (tag g ≡ 0 → ⊥) → wrong f g ≡ takeSize f g
@@ -38,7 +38,7 @@ no-size f (Size n m) h = absurd (h refl)
 no-size f (Arc t a w) h = refl
 no-size f (TwoWay t a w) h = refl
 no-size f (Potentials v a k) h = refl
-no-size f (Query s e n) h = refl
+no-size f (Query s e c n) h = refl
 no-size f Unsound h = refl
 
 pub no-arcs : (f : File) (g : Frame) → NoArc g → (tag g ≡ 2 → ⊥) → wrong f g ≡ takeArcs f g
@@ -47,7 +47,7 @@ no-arcs f (Arc t a w) h k = absurd (h .law t a w refl)
 no-arcs f (TwoWay t a w) h k = absurd (k refl)
 no-arcs f (Size n m) h k = refl
 no-arcs f (Potentials v a b) h k = refl
-no-arcs f (Query s e n) h k = refl
+no-arcs f (Query s e c n) h k = refl
 no-arcs f Unsound h k = refl
 
 pub no-arc : (g : Frame) → (tag g ≡ 1 → ⊥) → NoArc g
@@ -59,12 +59,12 @@ no-potentials f (Potentials v a k) h = absurd (h refl)
 no-potentials f (Size n m) h = refl
 no-potentials f (Arc t a w) h = refl
 no-potentials f (TwoWay t a w) h = refl
-no-potentials f (Query s e n) h = refl
+no-potentials f (Query s e c n) h = refl
 no-potentials f Unsound h = refl
 
 pub no-query : (f : File) (g : Frame) → (tag g ≡ 4 → ⊥) → wrong f g ≡ takeQuery f g
 unfolding takeQuery
-no-query f (Query s e n) h = absurd (h refl)
+no-query f (Query s e c n) h = absurd (h refl)
 no-query f (Size n m) h = refl
 no-query f (Arc t a w) h = refl
 no-query f (TwoWay t a w) h = refl

@@ -5,19 +5,19 @@ use mathlib.Core.Bool.{false}
 use mathlib.Core.List.{List, [], _∷_, _++_, map}
 use Prim.Native.Nat.{ℕ}
 use Prim.Native.Char.{code}
-use Prim.Native.String.{String, [] as none, _∷_ as _then_}
+use Prim.Native.String.{String, [] as none, _∷_ as _then_, _++_ as _with_}
 use lib.ListN.{replicate}
 use Rattle.network.specs.Network.{isArc}
 use Rattle.network.specs.Potential.{keepsRule}
 use Rattle.network.specs.Query.{sideOfTurn}
 use Rattle.network.specs.Refusal.{lowest, badNodeCount, badArcLists, badPotentialLists, badStartOrEnd, badEntry, badPattern, badRoom, badArc, outOfRange, badPotential, breaksRule, listRows, tripRows, mapRows, firstRefusal, queryVerdict}
-use Rattle.nba.specs.Search.{beginningHalf, atBeginning, lower, leastBelow, candidate, ended, rejected, arcsBelow, arcsOf, withLabel, withMeeting, lookAt, lookAtEach, halfAfter, afterReach, rejecting, opening, turn, turnUnlessEnded, afterTurns, atOnce, stateAt, endState}
-use Rattle.nba.specs.Result.{trail, turnedBefore, pathThrough, pathOf, countOf, figuresIn, answerAt, found, answerTo}
+use Rattle.nba.specs.Search.{beginningHalf, atBeginning, lower, leastBelow, candidate, ended, rejected, arcsBelow, arcsOf, withLabel, withMeeting, lookAt, lookAtEach, halfAfter, afterReach, rejecting, opening, turn, turnUnlessEnded, afterTurns, atOnce, stateAt}
+use Rattle.nba.specs.Result.{trail, turnedBefore, pathThrough, pathOf, countOf, figuresIn, answerAt, found, answerTo, excessOver, excess, unendedAt, foundAt, answerToAt}
 use Rattle.frames.specs.Digits.{digitOf, valueOf, areDigits, numberFrom, numberAt, digitsOf, spelled}
 use Rattle.frames.specs.Signed.{signedOf}
-use Rattle.frames.specs.Frame.{sizeOf, arcOf, potentialsOf, queryOf, ofKind, frameOf, patternDigits, patternOf}
+use Rattle.frames.specs.Frame.{sizeOf, arcOf, potentialsOf, queryOf, cappedOf, ofKind, frameOf, entriesFrom, patternOf}
 use Rattle.frames.specs.AnswerLines.{lineFeed, lineOf}
-use Rattle.district.specs.File.{refused, taken, takeSize, takeArcs, takePotentials, queryLines, takeQuery, takeFrame, takeLine, brokenLine, takeByte, endOfInput, feed, answerFrom, fileAnswer, displayAnswer}
+use Rattle.district.specs.File.{beginning, refused, taken, takeSize, takeArcs, takePotentials, queryLines, takeQuery, takeFrame, takeLine, brokenLine, takeByte, endOfInput, feed, answerFrom, fileAnswer, displayAnswer}
 
 -- who reads a file: `routeline`, the display, or `routeline` from the line with this number on
 pub data Reading : Type 0 where
@@ -66,10 +66,15 @@ shown-cut given piece answer = raw display (lines given ++ bytes piece) answer
 abbrev lone : List String
 lone = "0100010000" ∷ "0300000000000000000000" ∷ []
 
--- a query from node 0 to node 0, and its answer on that network
+-- a query from node 0 to node 0
 abbrev query : String
 query = "0400000000010"
 
+-- the same query at a cap of no turn
+abbrev capped : String
+capped = "07000000000000010"
+
+-- the answer of both on that network
 abbrev route : List String
 route = "810000000000010000000000000000" ∷ "820000" ∷ []
 
@@ -80,6 +85,26 @@ small = lone ++ (query ∷ [])
 -- two nodes and one arc, with a query from 0 to 1: the lines of the arc and of both potentials
 abbrev one-arc : String → String → String → List String
 one-arc arc p0 p1 = "0100020001" ∷ arc ∷ p0 ∷ p1 ∷ "0400000001010" ∷ []
+
+-- district D5, without a query
+abbrev five : List String
+five =
+    "0100050005"
+    ∷ "020000000100000001"
+    ∷ "020001000200000001"
+    ∷ "020002000300000001"
+    ∷ "020000000400000002"
+    ∷ "020004000300000002"
+    ∷ "0300000000000000000000"
+    ∷ "0300010000000000000000"
+    ∷ "0300020000000000000000"
+    ∷ "0300030000000000000000"
+    ∷ "0300040000000000000000"
+    ∷ []
+
+-- its query P1, from 0 to 3 with pattern 01, at a cap
+abbrev at-cap : String → String
+at-cap cap = "0700000003" with (cap with "0201")
 
 -- ---- the first line
 abbrev size-files : List Case
@@ -104,15 +129,17 @@ order-files =
     file ("0100010000" ∷ small) ("FF0B00000002" ∷ [])
     ∷ file (lone ++ ("0100000000" ∷ query ∷ [])) ("FF0B00000003" ∷ [])
     ∷ file (small ++ small) (route ++ ("FF0B00000004" ∷ []))
-    -- 02, 05, 03 and 04 before the 01: who skips them answers the query
+    -- 02, 05, 03, 04 and 07 before the 01: who skips them answers the query
     ∷ file ("020000000000000001" ∷ small) ("FF0B00000001" ∷ [])
     ∷ file ("050000000000000001" ∷ small) ("FF0B00000001" ∷ [])
     ∷ file ("0300000000000000000000" ∷ small) ("FF0B00000001" ∷ [])
     ∷ file (query ∷ small) ("FF0B00000001" ∷ [])
-    -- 03 where an arc is owed: who takes fewer arcs than stated answers the query. 04 there: who lets a query stand anywhere
-    -- answers it
+    ∷ file (capped ∷ small) ("FF0B00000001" ∷ [])
+    -- 03 where an arc is owed: who takes fewer arcs than stated answers the query. 04 and 07 there: who lets a query stand
+    -- anywhere answers it
     ∷ file ("0100010001" ∷ "0300000000000000000000" ∷ query ∷ []) ("FF0B00000002" ∷ [])
     ∷ file ("0100010001" ∷ query ∷ []) ("FF0B00000002" ∷ [])
+    ∷ file ("0100010001" ∷ capped ∷ []) ("FF0B00000002" ∷ [])
     -- an arc more than stated: who takes it answers the query
     ∷ file ("0100010000" ∷ "020000000000000001" ∷ "0300000000000000000000" ∷ query ∷ []) ("FF0B00000002" ∷ [])
     ∷ file ("0100010001" ∷ "020000000000000001" ∷ "020000000000000001" ∷ "0300000000000000000000" ∷ query ∷ []) ("FF0B00000003" ∷ [])
@@ -123,14 +150,16 @@ order-files =
     -- answers the query
     ∷ file ("0100020000" ∷ "0300010000000000000000" ∷ "0300000000000000000000" ∷ query ∷ []) ("FF0B00000002" ∷ [])
     ∷ file ("0100020000" ∷ "0300000000000000000000" ∷ "0300000000000000000000" ∷ query ∷ []) ("FF0B00000003" ∷ [])
-    -- 04 where the potentials of the second node are owed: who takes them for 0 answers the query
+    -- 04 and 07 where the potentials of the second node are owed: who takes them for 0 answers the query
     ∷ file ("0100020000" ∷ "0300000000000000000000" ∷ query ∷ []) ("FF0B00000003" ∷ [])
+    ∷ file ("0100020000" ∷ "0300000000000000000000" ∷ capped ∷ []) ("FF0B00000003" ∷ [])
     -- 02, 05 and the potentials of a node too many in the place of a query: who skips them answers the query
     ∷ file (lone ++ ("020000000000000001" ∷ query ∷ [])) ("FF0B00000003" ∷ [])
     ∷ file (lone ++ ("050000000000000001" ∷ query ∷ [])) ("FF0B00000003" ∷ [])
     ∷ file (lone ++ ("0300010000000000000000" ∷ query ∷ [])) ("FF0B00000003" ∷ [])
-    -- new potentials after a query: who takes them answers a second time
+    -- new potentials after a query, 04 or 07: who takes them answers a second time
     ∷ file (small ++ ("0300000000000000000000" ∷ query ∷ [])) (route ++ ("FF0B00000004" ∷ []))
+    ∷ file (lone ++ (capped ∷ "0300000000000000000000" ∷ query ∷ [])) (route ++ ("FF0B00000004" ∷ []))
     ∷ []
 
 -- ---- lines that are no sound frame
@@ -152,12 +181,21 @@ unsound-files =
     ∷ file (lone ++ ("040000000001" ∷ query ∷ [])) ("FF0A00000003" ∷ [])
     -- an empty line after the query: who takes it for the end of the file answers no refusal
     ∷ file (small ++ ("" ∷ [])) (route ++ ("FF0A00000004" ∷ []))
-    -- an answer's line in the place of a query: who skips it answers the query
+    -- an answer's line in the place of a query, a path's, a provisional's and an undecided's: who skips it answers the query, and
+    -- who takes it for a frame out of place answers 11
     ∷ file (lone ++ ("820000" ∷ query ∷ [])) ("FF0A00000003" ∷ [])
-    -- the longest query that can be written has 255 entries, and is 5: who takes it for no sound frame answers 10. With one
-    -- digit more it is none: who does not count its entries answers 5
+    ∷ file (lone ++ ("840000000400000003" ∷ query ∷ [])) ("FF0A00000003" ∷ [])
+    ∷ file (lone ++ ("850001" ∷ query ∷ [])) ("FF0A00000003" ∷ [])
+    -- a 07 that is an entry short, and a 07 without its cap: who takes the one answers 5 or a route, and who takes it for a 04
+    -- answers the other by a route
+    ∷ file (lone ++ ("0700000000000001" ∷ query ∷ [])) ("FF0A00000003" ∷ [])
+    ∷ file (lone ++ ("0700000000010" ∷ query ∷ [])) ("FF0A00000003" ∷ [])
+    -- the longest query that can be written has 255 entries, and is 5, as a 04 and as a 07: who takes it for no sound frame
+    -- answers 10. With one digit more it is none: who does not count its entries answers 5
     ∷ raw routeline (lines lone ++ (bytes "0400000000FF" ++ (replicate 255 48 ++ (lineFeed ∷ lines (query ∷ []))))) ("FF0500000000" ∷ route)
     ∷ raw routeline (lines lone ++ (bytes "0400000000FF" ++ (replicate 256 48 ++ (lineFeed ∷ lines (query ∷ []))))) ("FF0A00000003" ∷ [])
+    ∷ raw routeline (lines lone ++ (bytes "07000000000000FF" ++ (replicate 255 48 ++ (lineFeed ∷ lines (query ∷ []))))) ("FF0500000000" ∷ route)
+    ∷ raw routeline (lines lone ++ (bytes "07000000000000FF" ++ (replicate 256 48 ++ (lineFeed ∷ lines (query ∷ []))))) ("FF0A00000003" ∷ [])
     ∷ []
 
 -- ---- the end of input
@@ -182,6 +220,8 @@ end-files =
     -- refused one for none to the second
     ∷ file (small ++ (query ∷ [])) (route ++ route)
     ∷ file (lone ++ ("0400010000010" ∷ [])) ("FF0400000000" ∷ [])
+    -- a 07 is a query too: who does not count it adds 11
+    ∷ file (lone ++ (capped ∷ [])) route
     -- inside a line after a query: who forgets it answers no refusal
     ∷ cut small "04" (route ++ ("FF0A00000004" ∷ []))
     ∷ []
@@ -192,20 +232,23 @@ query-files =
     -- a start and an end that are no node, no entry, an entry 2: who stops at the first answers no more
     file (lone ++ ("0400010000010" ∷ "0400000001010" ∷ query ∷ [])) ("FF0400000000" ∷ "FF0400000000" ∷ route)
     ∷ file (lone ++ ("040000000000" ∷ "0400000000012" ∷ query ∷ [])) ("FF0500000000" ∷ "FF0500000000" ∷ route)
+    -- the same as 07: who looks at the cap first answers otherwise
+    ∷ file (lone ++ ("07000100000000010" ∷ "07000000010000010" ∷ capped ∷ [])) ("FF0400000000" ∷ "FF0400000000" ∷ route)
+    ∷ file (lone ++ ("0700000000000000" ∷ "07000000000000012" ∷ capped ∷ [])) ("FF0500000000" ∷ "FF0500000000" ∷ route)
     -- arc 1 has a head that is no node: 7 at each query that is not 4 or 5. Who stops at the first answers no more, and who
     -- lets the network's fault come first answers 7 four times
     ∷ file
-    ("0100010002" ∷ "020000000000000000" ∷ "020000000100000001" ∷ "0300000000000000000000" ∷ query ∷ "0400010000010" ∷ "0400000000012" ∷ query ∷ [])
-    ("FF0700000001" ∷ "FF0400000000" ∷ "FF0500000000" ∷ "FF0700000001" ∷ [])
+    ("0100010002" ∷ "020000000000000000" ∷ "020000000100000001" ∷ "0300000000000000000000" ∷ query ∷ "0400010000010" ∷ "0400000000012" ∷ query ∷ capped ∷ "07000100000000010" ∷ [])
+    ("FF0700000001" ∷ "FF0400000000" ∷ "FF0500000000" ∷ "FF0700000001" ∷ "FF0700000001" ∷ "FF0400000000" ∷ [])
     -- the same without a query: who tells the fault where it stands, or at the last potentials, answers 7
     ∷ file ("0100010002" ∷ "020000000000000000" ∷ "020000000100000001" ∷ "0300000000000000000000" ∷ []) ("FF0B00000005" ∷ [])
     -- node 1 has a potential of 2,047,000,001: 8 in the same way
-    ∷ file ("0100020000" ∷ "0300000000000000000000" ∷ "0300017A02BDC100000000" ∷ query ∷ "0400000002010" ∷ query ∷ [])
-    ("FF0800000001" ∷ "FF0400000000" ∷ "FF0800000001" ∷ [])
+    ∷ file ("0100020000" ∷ "0300000000000000000000" ∷ "0300017A02BDC100000000" ∷ query ∷ "0400000002010" ∷ query ∷ capped ∷ [])
+    ("FF0800000001" ∷ "FF0400000000" ∷ "FF0800000001" ∷ "FF0800000001" ∷ [])
     -- arc 1 breaks the rule: 9 in the same way, also from node 0 to node 0
     ∷ file
-    ("0100020002" ∷ "020000000000000000" ∷ "020000000100000001" ∷ "0300000000000200000000" ∷ "0300010000000000000000" ∷ "0400000001010" ∷ "0400020001010" ∷ query ∷ [])
-    ("FF0900000001" ∷ "FF0400000000" ∷ "FF0900000001" ∷ [])
+    ("0100020002" ∷ "020000000000000000" ∷ "020000000100000001" ∷ "0300000000000200000000" ∷ "0300010000000000000000" ∷ "0400000001010" ∷ "0400020001010" ∷ query ∷ capped ∷ [])
+    ("FF0900000001" ∷ "FF0400000000" ∷ "FF0900000001" ∷ "FF0900000001" ∷ [])
     -- the FF of a query, and then an unsound line: who takes any FF for the end answers one line
     ∷ file (lone ++ ("0400010000010" ∷ "" ∷ query ∷ [])) ("FF0400000000" ∷ "FF0A00000004" ∷ [])
     ∷ []
@@ -216,22 +259,12 @@ whole-files =
     -- district D5 with the query of P1, as the rules have it, and then those of P4, P2 and P3: who goes on in the pattern where
     -- the query before left it answers P4 with 0 and 1 opened, and who goes on with its tables answers P4 otherwise
     file
-    ("0100050005"
-    ∷ "020000000100000001"
-    ∷ "020001000200000001"
-    ∷ "020002000300000001"
-    ∷ "020000000400000002"
-    ∷ "020004000300000002"
-    ∷ "0300000000000000000000"
-    ∷ "0300010000000000000000"
-    ∷ "0300020000000000000000"
-    ∷ "0300030000000000000000"
-    ∷ "0300040000000000000000"
-    ∷ "04000000030201"
+    (five
+    ++ ("04000000030201"
     ∷ "04000300000201"
     ∷ "0400000003011"
     ∷ "04000200020201"
-    ∷ [])
+    ∷ []))
     ("810000000300040005000200010002"
     ∷ "820000000100020003"
     ∷ "800001000100000000"
@@ -262,6 +295,42 @@ whole-files =
     ("FF0900000002" ∷ [])
     ∷ []
 
+-- ---- queries at a cap, in district D5
+abbrev capped-files : List Case
+capped-files =
+    -- P1 at caps 5, 0, 1, 2, 3, 4 and 65,535, one after the other. Who forgets step 2 after the last allowed turn answers cap 5 by
+    -- a provisional, who goes on with the tables of the query before answers cap 0 by a route, who makes a turn more answers cap 1
+    -- by a provisional, and who shows no path with a provisional leaves out three lines
+    file
+    (five
+    ++ (at-cap "0005"
+    ∷ at-cap "0000"
+    ∷ at-cap "0001"
+    ∷ at-cap "0002"
+    ∷ at-cap "0003"
+    ∷ at-cap "0004"
+    ∷ at-cap "FFFF"
+    ∷ []))
+    ("810000000300040005000200010002"
+    ∷ "820000000100020003"
+    ∷ "850000"
+    ∷ "850001"
+    ∷ "840000000400000003"
+    ∷ "82000000040003"
+    ∷ "840000000300000001"
+    ∷ "820000000100020003"
+    ∷ "840000000300000001"
+    ∷ "820000000100020003"
+    ∷ "810000000300040005000200010002"
+    ∷ "820000000100020003"
+    ∷ [])
+    -- P4 at caps 0 and 1: who answers "no route" where no turn was made. P3 at cap 0: who answers it undecided
+    ∷ file (five ++ ("070003000000000201" ∷ "070003000000010201" ∷ "070002000200000201" ∷ []))
+    ("850000" ∷ "800001000100000000" ∷ "810000000000010000000000000000" ∷ "820002" ∷ [])
+    -- P2 at cap 4: who takes an excess of 0 for the end of the search answers a route
+    ∷ file (five ++ ("07000000030004011" ∷ [])) ("840000000300000000" ∷ "820000000100020003" ∷ [])
+    ∷ []
+
 -- ---- files of the display
 abbrev display-files : List Case
 display-files =
@@ -269,6 +338,13 @@ display-files =
     shown small route
     -- a second and a third query: who answers them, who leaves out the first one's answer, or who refuses twice
     ∷ shown (small ++ (query ∷ query ∷ [])) (route ++ ("FF0B00000004" ∷ []))
+    -- the same with a 07 as the second query, as the first and as both: who counts 04 only answers the second too
+    ∷ shown (small ++ (capped ∷ [])) (route ++ ("FF0B00000004" ∷ []))
+    ∷ shown (lone ++ (capped ∷ query ∷ [])) (route ++ ("FF0B00000004" ∷ []))
+    ∷ shown (lone ++ (capped ∷ capped ∷ [])) (route ++ ("FF0B00000004" ∷ []))
+    ∷ shown (lone ++ (capped ∷ [])) route
+    -- an undecided and then a second query: who lets another be asked until there is an answer answers it
+    ∷ shown (five ++ (at-cap "0001" ∷ "04000000030201" ∷ [])) ("850001" ∷ "FF0B0000000D" ∷ [])
     -- an empty line, a query that is an entry short, and half a query after the first: who refuses whatever follows answers 11
     ∷ shown (small ++ ("" ∷ [])) (route ++ ("FF0A00000004" ∷ []))
     ∷ shown (small ++ ("040000000001" ∷ [])) (route ++ ("FF0A00000004" ∷ []))
@@ -297,7 +373,7 @@ last-line-files =
     raw (fromLine 4294967295) (lines ("0100010000" ∷ [])) ("FF0BFFFFFFFF" ∷ [])
     ∷ raw (fromLine 4294967295) (lines ("" ∷ [])) ("FF0BFFFFFFFF" ∷ [])
     ∷ raw (fromLine 4294967295) (bytes "0") ("FF0BFFFFFFFF" ∷ [])
-    ∷ raw (fromLine 4294967295) (replicate 268 48) ("FF0BFFFFFFFF" ∷ [])
+    ∷ raw (fromLine 4294967295) (replicate 272 48) ("FF0BFFFFFFFF" ∷ [])
     ∷ raw (fromLine 4294967293) (lines small) ("FF0BFFFFFFFF" ∷ [])
     -- the line before it is a line like any other: who refuses from there on answers 11
     ∷ raw (fromLine 4294967294) (lines ("" ∷ [])) ("FF0AFFFFFFFE" ∷ [])
@@ -305,7 +381,7 @@ last-line-files =
     ∷ []
 
 abbrev cases : List Case
-cases = size-files ++ (order-files ++ (unsound-files ++ (end-files ++ (query-files ++ (whole-files ++ (display-files ++ last-line-files))))))
+cases = size-files ++ (order-files ++ (unsound-files ++ (end-files ++ (query-files ++ (whole-files ++ (capped-files ++ (display-files ++ last-line-files)))))))
 
 -- ---- what is answered
 abbrev answerOf : Reading → List ℕ → List ℕ
@@ -319,5 +395,11 @@ answered c = record { reading = c .reading; given = c .given; answer = answerOf 
 -- ---- the proof, by computation
 -- every file is answered as expected
 pub files-answered : map answered cases ≡ cases
-unfolding answered answerFrom feed endOfInput takeByte brokenLine takeLine takeFrame takeQuery queryLines takePotentials takeArcs takeSize taken refused lineOf patternOf patternDigits frameOf ofKind queryOf potentialsOf arcOf sizeOf signedOf spelled digitsOf numberAt numberFrom areDigits valueOf digitOf answerTo found answerAt figuresIn countOf pathOf pathThrough turnedBefore trail stateAt atOnce afterTurns turnUnlessEnded turn opening rejecting afterReach halfAfter lookAtEach lookAt withMeeting withLabel arcsOf arcsBelow rejected ended candidate leastBelow lower atBeginning beginningHalf sideOfTurn isArc keepsRule queryVerdict firstRefusal mapRows tripRows listRows breaksRule badPotential outOfRange badArc badRoom badPattern badEntry badStartOrEnd badPotentialLists badArcLists badNodeCount lowest
+unfolding answered answerFrom feed endOfInput takeByte brokenLine takeLine takeFrame takeQuery queryLines takePotentials takeArcs takeSize taken refused lineOf patternOf entriesFrom frameOf ofKind cappedOf queryOf potentialsOf arcOf sizeOf signedOf spelled digitsOf numberAt numberFrom areDigits valueOf digitOf answerTo answerToAt foundAt unendedAt excess excessOver found answerAt figuresIn countOf pathOf pathThrough turnedBefore trail stateAt atOnce afterTurns turnUnlessEnded turn opening rejecting afterReach halfAfter lookAtEach lookAt withMeeting withLabel arcsOf arcsBelow rejected ended candidate leastBelow lower atBeginning beginningHalf sideOfTurn isArc keepsRule queryVerdict firstRefusal mapRows tripRows listRows breaksRule badPotential outOfRange badArc badRoom badPattern badEntry badStartOrEnd badPotentialLists badArcLists badNodeCount lowest
 files-answered = refl
+
+-- a line is told to be too long at its 272nd byte: who waits for its line feed prints nothing yet, and who allows fewer digits
+-- refuses a line of 271
+pub told-at-once : (feed (beginning false 1) (replicate 271 48) .printed ≡ []) × (feed (beginning false 1) (replicate 272 48) .printed ≡ lines ("FF0A00000001" ∷ []))
+unfolding feed takeByte brokenLine refused lineOf spelled digitsOf digitOf
+told-at-once = (refl, refl)

@@ -75,7 +75,7 @@ by-sound (Size a b) f k = k (λ e. let z : _≡_ {A = ℕ} 0 1 = cc in omega ari
 by-sound (Arc a b w) f k = k (λ e. let z : _≡_ {A = ℕ} 0 1 = cc in omega arith)
 by-sound (TwoWay a b w) f k = k (λ e. let z : _≡_ {A = ℕ} 0 1 = cc in omega arith)
 by-sound (Potentials v a b) f k = k (λ e. let z : _≡_ {A = ℕ} 0 1 = cc in omega arith)
-by-sound (QueryFrame a b n) f k = k (λ e. let z : _≡_ {A = ℕ} 0 1 = cc in omega arith)
+by-sound (QueryFrame a b c n) f k = k (λ e. let z : _≡_ {A = ℕ} 0 1 = cc in omega arith)
 
 -- a sound frame that is not taken is 11
 sound-misplaced : (g : Frame) → g ≢ Unsound → (n : ℕ) → wrongCause g n ≡ MisplacedLine n
@@ -84,7 +84,7 @@ sound-misplaced (Size a b) s n = refl
 sound-misplaced (Arc a b w) s n = refl
 sound-misplaced (TwoWay a b w) s n = refl
 sound-misplaced (Potentials v a b) s n = refl
-sound-misplaced (QueryFrame a b k) s n = refl
+sound-misplaced (QueryFrame a b c k) s n = refl
 
 -- ---- the verdicts in turn
 -- on each line and then on the end of input
@@ -168,7 +168,7 @@ size-read single t (Size a b) m s = by-bool (eqb a 0) (λ z. absurd (refused≢a
 size-read single t (Arc a b w) m s = by-bool (sizeOwed t) (λ z. absurd (true≢false (rw z at m) refl)) (λ z. z)
 size-read single t (TwoWay a b w) m s = by-bool (sizeOwed t) (λ z. absurd (true≢false (rw z at m) refl)) (λ z. z)
 size-read single t (Potentials v a b) m s = by-bool (sizeOwed t) (λ z. absurd (true≢false (rw z at m) refl)) (λ z. z)
-size-read single t (QueryFrame a b k) m s = by-bool (sizeOwed t) (λ z. absurd (true≢false (rw z at m) refl)) (λ z. z)
+size-read single t (QueryFrame a b c k) m s = by-bool (sizeOwed t) (λ z. absurd (true≢false (rw z at m) refl)) (λ z. z)
 size-read single t Unsound m s = absurd (true≢false m refl)
 
 -- ---- the lines of a file
@@ -240,7 +240,7 @@ module _ (single : Bool) (first : ℕ) (bytes : List ℕ) where
       counts-given c (Arc a b w) e l m s = absurd (refused≢accepted (sym s))
       counts-given c (TwoWay a b w) e l m s = absurd (refused≢accepted (sym s))
       counts-given c (Potentials v a b) e l m s = absurd (refused≢accepted (sym s))
-      counts-given c (QueryFrame a b k) e l m s = absurd (refused≢accepted (sym s))
+      counts-given c (QueryFrame a b d k) e l m s = absurd (refused≢accepted (sym s))
       counts-given c Unsound e l m s = absurd (refused≢accepted (sym s))
 
       line-given : (c : Cause) → frameVerdict single (first + i) (toldAfter bytes i) (frameAfter bytes i) ≡ Refused c → GivenByCause single first bytes c

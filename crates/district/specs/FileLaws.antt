@@ -6,21 +6,27 @@ use mathlib.Core.List.{List, [], _∷_, _++_, append-assoc}
 use Prim.Native.Nat.{ℕ, _+_, _≤_}
 use native.Mathlib.Omega.{arith}
 use lib.ListN.{length, take, length-append, length-take}
+use borrow.Author.Tests.{ltb-true}
+use Rattle.network.specs.declared.Cap.{Cap}
+use Rattle.network.specs.declared.Cap.the-variants.{AtMost}
 use Rattle.network.specs.declared.Cause.{Cause}
 use Rattle.network.specs.declared.Answer.{Answer}
-use Rattle.network.specs.declared.Answer.the-variants.{Route, NoRoute, Refused}
+use Rattle.network.specs.declared.Figures.{Figures}
 use Rattle.network.specs.declared.Verdict.{Verdict}
 use Rattle.network.specs.declared.Verdict.the-variants.{Accepted, Refused as Refusal}
 use Rattle.network.specs.CaseSplit.{by-bool}
+use Rattle.network.specs.Network.{mostNodes}
 use Rattle.network.specs.Query.{Query}
 use Rattle.network.specs.Refusal.{queryVerdict}
 use Rattle.network.specs.Given.{Sound}
 use Rattle.network.specs.SoundLaws.{accepted-sound}
-use Rattle.nba.specs.Search.{endState}
-use Rattle.nba.specs.Result.{pathOf, found, refusedOr, answerTo}
-use Rattle.nba.specs.Why.Theorems.{path-fits}
+use Rattle.nba.specs.State.{missing, present, State}
+use Rattle.nba.specs.Search.{stateAt}
+use Rattle.nba.specs.Result.{pathOf, figuresIn, excess, refusedOr, foundAt, answerToAt, turnsGiven}
+use Rattle.nba.specs.Why.Theorems.{path-fits-at}
 use Rattle.frames.specs.AnswerLines.{answerLines}
-use Rattle.frames.specs.AnswerLaws.{length-refused, length-no-route, length-route}
+use Rattle.frames.specs.AnswerLaws.{length-refused, length-no-route, length-route, length-provisional, length-undecided}
+use Rattle.district.specs.CappedLaws.{capped-lines, by-found}
 use Rattle.district.specs.StepCases.{by-line, by-broken, by-byte, by-end}
 use Rattle.district.specs.File.{Told, File, FileStep, step, beginning, refused, taken, workRoom, queryLines, takeByte, endOfInput, feed, answerFrom}
 use Rattle.district.specs.Reader.{mostBytes, refusalBytes}
@@ -60,21 +66,30 @@ rest-ended f (b ∷ bytes) ended =
     rest-byte f b bytes ∙ rw same (rest-ended f bytes ended)
 
 -- ---- how much is printed
-found-short : (q : Query) → Sound q → (a : Answer) → found q ≡ a → (p : List ℕ) → length (answerLines a p) ≤ mostBytes
-found-short q sound (Route l n f) e p =
-    let t : length (take n p) ≤ n = rw length-take (omega arith) in
-    omega (arith, length-route l n f p, path-fits sound e .few, sound .sized .few-nodes)
-found-short q sound (NoRoute f) e p = omega (arith, length-no-route f p)
-found-short q sound (Refused c) e p = omega (arith, length-refused c p)
+found-short : (q : Query) → Sound q → (cap : ℕ) → length (answerLines (foundAt q cap) (pathOf q (stateAt q cap))) ≤ mostBytes
+found-short q sound cap =
+    let st : State = stateAt q cap in
+    let path : List ℕ = pathOf q st in
+    let f : Figures = figuresIn (st .states) in
+    let nodes : length (take (length path) path) ≤ length path = rw length-take (omega arith) in
+    let few : present (st .best) ≡ true → length path ≤ mostNodes = λ here. omega (arith, path-fits-at sound cap (ltb-true (st .best) missing here) .few, sound .sized .few-nodes) in
+    by-found q cap (λ (a : Answer). length (answerLines a path) ≤ mostBytes)
+    (λ here. omega (arith, length-route (st .best) (length path) f path, nodes, few here))
+    (λ here. omega (arith, length-provisional (st .best) (excess q st) (length path) f path, nodes, few here))
+    (λ _. omega (arith, length-no-route f path))
+    (λ _. omega (arith, length-undecided f path))
+
+capped-short : (q : Query) (cap : ℕ) → length (queryLines (AtMost cap) q) ≤ mostBytes
+unfolding queryLines answerToAt
+capped-short q cap = go (queryVerdict q workRoom) refl
+  where
+    go : (v : Verdict) → queryVerdict q workRoom ≡ v → length (answerLines (refusedOr v (foundAt q cap)) (pathOf q (stateAt q cap))) ≤ mostBytes
+    go (Refusal c) e = omega (arith, length-refused c (pathOf q (stateAt q cap)))
+    go Accepted e = found-short q (accepted-sound q workRoom e) cap
 
 -- no query's answer has more bytes than a route over 2,048 nodes
-pub query-short : (q : Query) → length (queryLines q) ≤ mostBytes
-unfolding queryLines answerTo
-query-short q = go (queryVerdict q workRoom) refl
-  where
-    go : (v : Verdict) → queryVerdict q workRoom ≡ v → length (answerLines (refusedOr v (found q)) (pathOf q (endState q))) ≤ mostBytes
-    go (Refusal c) e = omega (arith, length-refused c (pathOf q (endState q)))
-    go Accepted e = found-short q (accepted-sound q workRoom e) (found q) refl (pathOf q (endState q))
+pub query-short : (c : Cap) (q : Query) → length (queryLines c q) ≤ mostBytes
+query-short c q = rw (capped-lines c q) (capped-short q (turnsGiven c q))
 
 -- the most that a file with one query still prints: the answer and a refusal, a refusal, or nothing
 unfoldable pub atMost : File → ℕ
@@ -98,15 +113,15 @@ module _ (f : File) (one : f .single ≡ true) (goes : f .going ≡ true) where
   unfolding taken atMost
   told-spends t e = record { still-single = one; out-of = rw e (omega arith) }
 
-  query-spends : (t : Told) (q : Query) → t .asked ≡ true → f .told .asked ≡ false → Spends f (taken f t (queryLines q))
+  query-spends : (t : Told) (c : Cap) (q : Query) → t .asked ≡ true → f .told .asked ≡ false → Spends f (taken f t (queryLines c q))
   unfolding taken atMost
-  query-spends t q e none = record { still-single = one; out-of = rw (e, none, goes) (omega (arith, query-short q)) }
+  query-spends t c q e none = record { still-single = one; out-of = rw (e, none, goes) (omega (arith, query-short c q)) }
 
 byte-spends : (f : File) (b : ℕ) → f .single ≡ true → Spends f (takeByte f b)
 unfolding atMost
 byte-spends f b one =
     by-byte f b (Spends f)
-    (λ goes. by-line f (Spends f) (refused-spends f one goes) (told-spends f one goes) (λ t q e none. query-spends f one goes t q e (rw one at none)))
+    (λ goes. by-line f (Spends f) (refused-spends f one goes) (told-spends f one goes) (λ t c q e none. query-spends f one goes t c q e (rw one at none)))
     (record { still-single = one; out-of = omega arith })
     (λ goes. by-broken f (Spends f) (refused-spends f one goes))
     (record { still-single = one; out-of = omega arith })

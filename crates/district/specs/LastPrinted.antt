@@ -11,28 +11,29 @@ use lib.Dec.{eqb, ltb}
 use lib.ListN.{length, take, replicate, getD, length-append}
 use lib.Seq.{take-at, take-suc, getD-append-seam}
 use borrow.Author.Tests.{ne-eqb, not-true}
+use Rattle.network.specs.declared.Cap.{Cap}
+use Rattle.network.specs.declared.Cap.the-variants.{AtMost}
 use Rattle.network.specs.declared.Cause.{Cause}
 use Rattle.network.specs.declared.Cause.the-variants.{NodeCount, ArcLists, PotentialLists, StartOrEnd, Pattern, Room, BadArc, BadPotential, Inconsistent, UnsoundLine, MisplacedLine}
-use Rattle.network.specs.declared.Figures.{Figures}
 use Rattle.network.specs.declared.Answer.{Answer}
-use Rattle.network.specs.declared.Answer.the-variants.{Route, NoRoute, Refused as Refusal}
+use Rattle.network.specs.declared.Answer.the-variants.{Route, NoRoute, Refused as Refusal, Provisional, Undecided}
 use Rattle.network.specs.declared.Verdict.{Verdict}
 use Rattle.network.specs.declared.Verdict.the-variants.{Accepted, Refused}
 use Rattle.network.specs.Answer.{numberOf, placeOf, kindOf, valuesOf}
 use Rattle.network.specs.CaseSplit.{cases, by-lt, both-true}
 use Rattle.network.specs.Query.{Query}
 use Rattle.network.specs.Refusal.{queryVerdict}
-use Rattle.nba.specs.State.{present}
-use Rattle.nba.specs.Search.{endState}
-use Rattle.nba.specs.Result.{pathOf, answerAt, found, refusedOr, answerTo}
+use Rattle.nba.specs.Search.{stateAt}
+use Rattle.nba.specs.Result.{pathOf, refusedOr, foundAt, answerToAt, turnsGiven}
 use Rattle.frames.specs.declared.Frame.{Frame}
 use Rattle.frames.specs.declared.Frame.the-variants.{Size, Arc, TwoWay, Potentials, Query as QueryFrame, Unsound}
 use Rattle.frames.specs.Digits.{digitOf, numberFrom, numberAt, digitsOf, spelled}
 use Rattle.frames.specs.FieldLaws.{length-digits, field-roundtrip}
 use Rattle.frames.specs.Frame.{frameOf, patternOf}
-use Rattle.frames.specs.AnswerLines.{lineFeed, lineOf, widthsOf, answerLines}
+use Rattle.frames.specs.AnswerLines.{lineFeed, lineOf, widthsOf, answerLine, pathLine, answerLines}
 use Rattle.frames.specs.AnswerLaws.{number-below-256, answer-determined}
 use Rattle.district.specs.File.{Told, nothingTold, lastLine, workRoom, queryLines, queryOn, answerFrom}
+use Rattle.district.specs.CappedLaws.{capped-lines, by-found}
 use Rattle.district.specs.Lines.{linesOf, withoutFeed, toldWith, printedFor, outcomeOf}
 use Rattle.district.specs.FileGiven.{lineCount, frameAfter, toldByLines, toldAfter, printedByLines, lastPrinted, TakenAfter, TakenWhole, ComesTo, QueryNumber}
 use Rattle.district.specs.FileGivenLaws.{GivenByCause, file-refused-exactly-when, file-accepted-exactly-when, file-taken-whole, file-refused-prints, file-accepted-prints}
@@ -66,23 +67,42 @@ line-first [] y h = refl
 line-first (b ∷ x) y h = both-true (not (eqb b lineFeed)) (withoutFeed x) h (λ p q. rw (not-true (eqb b lineFeed) p, line-first x y q))
 
 -- ---- the lines of an answer
--- without their line feeds
+-- without their line feeds: the line of its kind and values, and that of a path
+abbrev ownText : Answer → List ℕ
+ownText a = spelled (widthsOf a) (kindOf a ∷ valuesOf a)
+
+abbrev pathText : List ℕ → List ℕ
+pathText nodes = digitsOf 2 130 ++ spelled (replicate (length nodes) 4) nodes
+
 abbrev texts : Answer → List ℕ → List (List ℕ)
-texts (Route l n f) path = spelled (widthsOf (Route l n f)) (kindOf (Route l n f) ∷ valuesOf (Route l n f)) ∷ (digitsOf 2 130 ++ spelled (replicate (length (take n path)) 4) (take n path)) ∷ []
-texts (NoRoute f) path = spelled (widthsOf (NoRoute f)) (kindOf (NoRoute f) ∷ valuesOf (NoRoute f)) ∷ []
-texts (Refusal c) path = spelled (widthsOf (Refusal c)) (kindOf (Refusal c) ∷ valuesOf (Refusal c)) ∷ []
+texts (Route l n f) path = ownText (Route l n f) ∷ pathText (take n path) ∷ []
+texts (Provisional l x n f) path = ownText (Provisional l x n f) ∷ pathText (take n path) ∷ []
+texts (NoRoute f) path = ownText (NoRoute f) ∷ []
+texts (Undecided f) path = ownText (Undecided f) ∷ []
+texts (Refusal c) path = ownText (Refusal c) ∷ []
+
+own-first : (a : Answer) (y : List ℕ) → linesOf (answerLine a ++ y) .whole ≡ ownText a ∷ linesOf y .whole
+unfolding lineOf
+own-first a y = rw append-assoc (line-first (ownText a) y (spelled-free (widthsOf a) (kindOf a ∷ valuesOf a)))
+
+path-first : (nodes y : List ℕ) → linesOf (pathLine nodes ++ y) .whole ≡ pathText nodes ∷ linesOf y .whole
+unfolding lineOf
+path-first nodes y =
+    let free : withoutFeed (pathText nodes) ≡ true = free-append (digitsOf 2 130) _ (digits-free 2 130) (spelled-free (replicate (length nodes) 4) nodes) in
+    let parts : pathLine nodes ++ y ≡ pathText nodes ++ (lineFeed ∷ y) = simp append-assoc in
+    ap (λ (s : List ℕ). linesOf s .whole) parts ∙ line-first (pathText nodes) y free
+
+both-first : (a : Answer) (nodes y : List ℕ) → linesOf ((answerLine a ++ pathLine nodes) ++ y) .whole ≡ ownText a ∷ pathText nodes ∷ linesOf y .whole
+both-first a nodes y =
+    ap (λ (s : List ℕ). linesOf s .whole) (append-assoc (answerLine a) (pathLine nodes) y)
+    ∙ (own-first a (pathLine nodes ++ y) ∙ ap (λ (ls : List (List ℕ)). ownText a ∷ ls) (path-first nodes y))
 
 answer-texts : (a : Answer) (path y : List ℕ) → linesOf (answerLines a path ++ y) .whole ≡ texts a path ++ linesOf y .whole
-unfolding lineOf
-answer-texts (Route l n f) path y =
-    let route : List ℕ = spelled (widthsOf (Route l n f)) (kindOf (Route l n f) ∷ valuesOf (Route l n f)) in
-    let nodes : List ℕ = spelled (replicate (length (take n path)) 4) (take n path) in
-    let first : withoutFeed route ≡ true = spelled-free (widthsOf (Route l n f)) (kindOf (Route l n f) ∷ valuesOf (Route l n f)) in
-    let second : withoutFeed (digitsOf 2 130 ++ nodes) ≡ true = free-append (digitsOf 2 130) nodes (digits-free 2 130) (spelled-free (replicate (length (take n path)) 4) (take n path)) in
-    let parts : answerLines (Route l n f) path ++ y ≡ route ++ (lineFeed ∷ ((digitsOf 2 130 ++ nodes) ++ (lineFeed ∷ y))) = simp append-assoc in
-    ap (λ (s : List ℕ). linesOf s .whole) parts ∙ (line-first route _ first ∙ ap (λ (ls : List (List ℕ)). route ∷ ls) (line-first (digitsOf 2 130 ++ nodes) y second))
-answer-texts (NoRoute f) path y = rw append-assoc (line-first _ y (spelled-free (widthsOf (NoRoute f)) (kindOf (NoRoute f) ∷ valuesOf (NoRoute f))))
-answer-texts (Refusal c) path y = rw append-assoc (line-first _ y (spelled-free (widthsOf (Refusal c)) (kindOf (Refusal c) ∷ valuesOf (Refusal c))))
+answer-texts (Route l n f) path y = both-first (Route l n f) (take n path) y
+answer-texts (Provisional l x n f) path y = both-first (Provisional l x n f) (take n path) y
+answer-texts (NoRoute f) path y = own-first (NoRoute f) y
+answer-texts (Undecided f) path y = own-first (Undecided f) y
+answer-texts (Refusal c) path y = own-first (Refusal c) y
 
 -- ---- which line is an FF line of a file
 -- if it is an FF line, its number is that of a query's refusal
@@ -122,40 +142,40 @@ refusal-kind c = field-roundtrip [] 2 255 _ 0 refl (omega arith)
 refused-none : (c : Cause) (path : List ℕ) → QueryNumber (numberOf c) → NoFiles (texts (Refusal c) path)
 refused-none c path q = one-none (record { law = λ _. rw (refusal-number c) q }) nothing-none
 
-route-none : (l n : ℕ) (f : Figures) (path : List ℕ) → NoFiles (texts (Route l n f) path)
-unfolding spelled
-route-none l n f path = one-none (kind-none 129 _ (omega arith)) (one-none (kind-none 130 _ (omega arith)) nothing-none)
-
-no-route-none : (f : Figures) (path : List ℕ) → NoFiles (texts (NoRoute f) path)
-unfolding spelled
-no-route-none f path = one-none (kind-none 128 _ (omega arith)) nothing-none
-
 -- a search's answer is no refusal
-record Found (path : List ℕ) (a : Answer) : Type 0 where
-  pub none : NoFiles (texts a path)
-
-route-found : (path : List ℕ) (l n : ℕ) (f : Figures) → Found path (Route l n f)
-route-found path l n f = record { none = route-none l n f path }
-
-no-route-found : (path : List ℕ) (f : Figures) → Found path (NoRoute f)
-no-route-found path f = record { none = no-route-none f path }
-
-found-none : (q : Query) (path : List ℕ) → Found path (found q)
-unfolding found answerAt
-found-none q path = cases (Found path) (present (endState q .best)) (λ _. route-found path _ _ _) (λ _. no-route-found path _)
+found-none : (q : Query) (cap : ℕ) (path : List ℕ) → NoFiles (texts (foundAt q cap) path)
+unfolding spelled
+found-none q cap path =
+    let on-path : NoFiles (pathText (take (length (pathOf q (stateAt q cap))) path) ∷ []) = one-none (kind-none 130 _ (omega arith)) nothing-none in
+    by-found q cap (λ (a : Answer). NoFiles (texts a path))
+    (λ _. one-none (kind-none 129 _ (omega arith)) on-path)
+    (λ _. one-none (kind-none 132 _ (omega arith)) on-path)
+    (λ _. one-none (kind-none 128 _ (omega arith)) nothing-none)
+    (λ _. one-none (kind-none 133 _ (omega arith)) nothing-none)
 
 -- the answer of a query whose refusals are 4, 5, 7, 8 or 9
-answer-none : (q : Query) (path : List ℕ) → ((c : Cause) → queryVerdict q workRoom ≡ Refused c → QueryNumber (numberOf c)) → NoFiles (texts (answerTo q workRoom) path)
-unfolding answerTo
-answer-none q path h = go (queryVerdict q workRoom) refl
+answer-none : (q : Query) (cap : ℕ) (path : List ℕ) → ((c : Cause) → queryVerdict q workRoom ≡ Refused c → QueryNumber (numberOf c)) → NoFiles (texts (answerToAt q cap workRoom) path)
+unfolding answerToAt
+answer-none q cap path h = go (queryVerdict q workRoom) refl
   where
-    go : (v : Verdict) → queryVerdict q workRoom ≡ v → NoFiles (texts (refusedOr v (found q)) path)
-    go Accepted e = found-none q path .none
+    go : (v : Verdict) → queryVerdict q workRoom ≡ v → NoFiles (texts (refusedOr v (foundAt q cap)) path)
+    go Accepted e = found-none q cap path
     go (Refused c) e = refused-none c path (h c e)
 
 -- ---- the lines of a file's queries
+-- of a query that is given so many turns
+abbrev textsAt : Query → ℕ → List (List ℕ)
+textsAt q cap = texts (answerToAt q cap workRoom) (pathOf q (stateAt q cap))
+
+texts-at : (q : Query) (cap : ℕ) (y : List ℕ) → linesOf (queryLines (AtMost cap) q ++ y) .whole ≡ textsAt q cap ++ linesOf y .whole
+unfolding queryLines
+texts-at q cap y = answer-texts (answerToAt q cap workRoom) (pathOf q (stateAt q cap)) y
+
+query-texts : (c : Cap) (q : Query) (y : List ℕ) → linesOf (queryLines c q ++ y) .whole ≡ textsAt q (turnsGiven c q) ++ linesOf y .whole
+query-texts c q y = rw (capped-lines c q) (texts-at q (turnsGiven c q) y)
+
 abbrev textsFor : Told → List ℕ → Frame → List (List ℕ)
-textsFor t line (QueryFrame s e n) = texts (answerTo (queryOn t s e (patternOf line)) workRoom) (pathOf (queryOn t s e (patternOf line)) (endState (queryOn t s e (patternOf line))))
+textsFor t line (QueryFrame s e c n) = textsAt (queryOn t s e (patternOf line)) (turnsGiven c (queryOn t s e (patternOf line)))
 textsFor t line (Size n m) = []
 textsFor t line (Arc a b w) = []
 textsFor t line (TwoWay a b w) = []
@@ -163,8 +183,8 @@ textsFor t line (Potentials v h k) = []
 textsFor t line Unsound = []
 
 frame-texts : (t : Told) (line : List ℕ) (g : Frame) (y : List ℕ) → linesOf (printedFor t line g ++ y) .whole ≡ textsFor t line g ++ linesOf y .whole
-unfolding printedFor queryLines
-frame-texts t line (QueryFrame s e n) y = answer-texts (answerTo (queryOn t s e (patternOf line)) workRoom) _ y
+unfolding printedFor
+frame-texts t line (QueryFrame s e c n) y = query-texts c (queryOn t s e (patternOf line)) y
 frame-texts t line (Size n m) y = refl
 frame-texts t line (Arc a b w) y = refl
 frame-texts t line (TwoWay a b w) y = refl
@@ -198,7 +218,7 @@ same-text x y e =
 module _ (single : Bool) (first : ℕ) (bytes : List ℕ) where
   -- a query that is taken prints no FF line of a file
   frame-none : (i : ℕ) → i < lineCount bytes → ((j : ℕ) → j ≤ i → TakenAfter single first bytes j) → (line : List ℕ) (g : Frame) → frameAfter bytes i ≡ g → NoFiles (textsFor (toldAfter bytes i) line g)
-  frame-none i h taken line (QueryFrame s e n) f = answer-none _ _ (λ c v. query-refused-with single first bytes i h taken f (patternOf line) c v)
+  frame-none i h taken line (QueryFrame s e d n) f = answer-none _ _ _ (λ c v. query-refused-with single first bytes i h taken f (patternOf line) c v)
   frame-none i h taken line (Size a b) f = nothing-none
   frame-none i h taken line (Arc a b w) f = nothing-none
   frame-none i h taken line (TwoWay a b w) f = nothing-none
@@ -217,7 +237,7 @@ module _ (single : Bool) (first : ℕ) (bytes : List ℕ) where
   last-refused : (c : Cause) → GivenByCause single first bytes c → lastPrinted (answerFrom single first bytes) ++ (lineFeed ∷ []) ≡ answerLines (Refusal c) []
   unfolding lastPrinted lineOf linesOf
   last-refused c g =
-      let text : List ℕ = spelled (widthsOf (Refusal c)) (kindOf (Refusal c) ∷ valuesOf (Refusal c)) in
+      let text : List ℕ = ownText (Refusal c) in
       let before : List (List ℕ) = textsBy nothingTold (take (placeOf c - first) (linesOf bytes .whole)) in
       let own : linesOf (answerLines (Refusal c) []) .whole ≡ text ∷ [] = ap (λ (s : List ℕ). linesOf s .whole) (sym (append-nil (answerLines (Refusal c) []))) ∙ answer-texts (Refusal c) [] [] in
       let all : linesOf (answerFrom single first bytes) .whole ≡ before ++ (text ∷ []) = ap (λ (s : List ℕ). linesOf s .whole) (file-refused-prints single first bytes c g)
@@ -267,8 +287,8 @@ module _ (single : Bool) (first : ℕ) (bytes : List ℕ) where
             let cause : d ≡ c = cc in
             subst (λ (x : Cause). GivenByCause single first bytes x) cause g
         go Accepted e =
-            let text : lastPrinted (answerFrom single first bytes) ≡ spelled (widthsOf (Refusal c)) (kindOf (Refusal c) ∷ valuesOf (Refusal c)) = same-text _ _ h in
-            let none : NoFile (spelled (widthsOf (Refusal c)) (kindOf (Refusal c) ∷ valuesOf (Refusal c))) = subst (λ (x : List ℕ). NoFile x) text (last-accepted e) in
+            let text : lastPrinted (answerFrom single first bytes) ≡ ownText (Refusal c) = same-text _ _ h in
+            let none : NoFile (ownText (Refusal c)) = subst (λ (x : List ℕ). NoFile x) text (last-accepted e) in
             absurd (own (subst (λ (n : ℕ). QueryNumber n) (refusal-number c) (none .law (refusal-kind c))))
 
     -- the last line printed is the FF line of c exactly when the rules give c of the file

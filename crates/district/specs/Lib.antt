@@ -11,6 +11,7 @@ pub mod Inner
 pub mod ReaderLaws
 pub mod TakenLaws
 pub mod QueryLaws
+pub mod CappedLaws
 pub mod StepCases
 pub mod FileLaws
 pub mod LinesLaws

@@ -13,7 +13,7 @@ use Rattle.network.specs.declared.Verdict.the-variants.{Accepted, Refused}
 use Rattle.network.specs.Refusal.{firstRefusal}
 use Rattle.frames.specs.Digits.{valueOf, areDigits, numberFrom, numberAt}
 use Rattle.frames.specs.Signed.{signedOf}
-use Rattle.frames.specs.Frame.{sizeOf, arcOf, potentialsOf, queryOf, ofKind, frameOf}
+use Rattle.frames.specs.Frame.{sizeOf, arcOf, potentialsOf, queryOf, cappedOf, ofKind, frameOf}
 use Rattle.frames.specs.AnswerLines.{lineFeed}
 use Rattle.district.specs.Lines.{linesOf, mayStand, frameVerdict, endVerdict, toldWith, readLines, outcomeOf}
 
@@ -47,9 +47,9 @@ cases =
     -- a whole file, and one with a piece of a line behind it: who forgets the piece answers nothing
     ∷ file (lines small) Accepted
     ∷ file (lines small ++ bytes "04") (Refused (UnsoundLine 4))
-    -- a line of 268 digits, with and without its line feed: who judges whole lines only answers 11
-    ∷ file (replicate 268 48 ++ (lineFeed ∷ [])) (Refused (UnsoundLine 1))
-    ∷ file (replicate 268 48) (Refused (UnsoundLine 1))
+    -- a line of 272 digits, with and without its line feed: who judges whole lines only answers 11
+    ∷ file (replicate 272 48 ++ (lineFeed ∷ [])) (Refused (UnsoundLine 1))
+    ∷ file (replicate 272 48) (Refused (UnsoundLine 1))
     -- bad counts: who gives the line answers 11 at line 1
     ∷ file (lines ("0108012001" ∷ [])) (Refused NodeCount)
     ∷ file (lines ("0108002001" ∷ [])) (Refused ArcLists)
@@ -58,9 +58,12 @@ cases =
     ∷ file (lines ("0100010001" ∷ "050000000000000001" ∷ [])) (Refused (MisplacedLine 2))
     -- no sound frame where a sound one may not stand either: who tests the order first answers 11
     ∷ file (lines ("0100010001" ∷ "03" ∷ [])) (Refused (UnsoundLine 2))
-    -- a second query, for the display and for `routeline`
+    -- a second query, 04 or 07, for the display and for `routeline`
     ∷ record { single = true; first = 1; given = lines (small ++ ("0400000000010" ∷ [])); verdict = Refused (MisplacedLine 4) }
-    ∷ file (lines (small ++ ("0400000000010" ∷ []))) Accepted
+    ∷ record { single = true; first = 1; given = lines (small ++ ("07000000000000010" ∷ [])); verdict = Refused (MisplacedLine 4) }
+    ∷ file (lines (small ++ ("0400000000010" ∷ "07000000000000010" ∷ []))) Accepted
+    -- a 07 where potentials are owed: who lets it stand anywhere answers no refusal
+    ∷ file (lines ("0100010000" ∷ "07000000000000010" ∷ [])) (Refused (MisplacedLine 2))
     -- line 4,294,967,295 is 11, sound or not, whole or in part
     ∷ record { single = false; first = 4294967295; given = lines ("0100010000" ∷ []); verdict = Refused (MisplacedLine 4294967295) }
     ∷ record { single = false; first = 4294967295; given = bytes "0"; verdict = Refused (MisplacedLine 4294967295) }
@@ -89,5 +92,5 @@ asRead c = record { single = c .single; first = c .first; given = c .given; verd
 
 -- every file is refused, or not, as expected
 pub files-judged : map asRead cases ≡ cases
-unfolding asRead outcomeOf readLines toldWith endVerdict frameVerdict mayStand linesOf frameOf ofKind queryOf potentialsOf arcOf sizeOf signedOf numberAt numberFrom areDigits valueOf firstRefusal
+unfolding asRead outcomeOf readLines toldWith endVerdict frameVerdict mayStand linesOf frameOf ofKind cappedOf queryOf potentialsOf arcOf sizeOf signedOf numberAt numberFrom areDigits valueOf firstRefusal
 files-judged = refl

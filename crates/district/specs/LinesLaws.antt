@@ -111,7 +111,7 @@ module _ (single : Bool) (n : ℕ) (t : Told) (held : List ℕ) where
       (by-bool (arcsOwed t) (λ p. rw p)
       (λ p. rw p
       (by-bool (potentialsOwed t) (λ q. rw q (by-bool (eqb v (length (t .forward))) (λ r. rw r) (λ r. rw r))) (λ q. rw q)))))
-  frame-step (QueryFrame s e k) =
+  frame-step (QueryFrame s e c k) =
       by-bool (sizeOwed t) (λ p. rw p)
       (λ p. rw p
       (by-bool (arcsOwed t) (λ q. rw q)

@@ -24,7 +24,7 @@ module _ (f : File) where
   unfolding taken
   printed-fits b =
       by-byte f b Short
-      (λ _. by-line f Short refused-short (λ t e. record { bytes = omega arith }) (λ t q e none. record { bytes = query-short q }))
+      (λ _. by-line f Short refused-short (λ t e. record { bytes = omega arith }) (λ t c q e none. record { bytes = query-short c q }))
       (record { bytes = omega arith })
       (λ _. by-broken f Short refused-short)
       (record { bytes = omega arith })

@@ -1,7 +1,7 @@
 -- What the code prints for a query is what the definition says: the path that the search leaves at the front of its list is the
--- path of the answer, and a line's pattern has at most 255 entries. Assumes nothing.
+-- path of the answer, and a list of 255 entries takes a line's pattern whole. Assumes nothing.
 use mathlib.Core.Path.{_≡_, refl, sym, ap, subst, _∙_}
-use mathlib.Core.Bool.{Bool, true, false, cond, _&&_}
+use mathlib.Core.Bool.{true, false, _&&_}
 use mathlib.Core.List.{List, [], _∷_, _++_}
 use Prim.Native.Nat.{ℕ, _≤_, _<_}
 use native.Mathlib.Nat.{le-refl}
@@ -10,25 +10,24 @@ use lib.IntN.{ℤ}
 use lib.ListN.{length, take, drop}
 use lib.Seq.{take-at, take-all, length-take-le}
 use Rattle.network.specs.declared.Answer.{Answer}
-use Rattle.network.specs.declared.Answer.the-variants.{Route, NoRoute, Refused}
+use Rattle.network.specs.declared.Answer.the-variants.{Route, Refused, Provisional}
+use Rattle.network.specs.declared.Cap.{Cap}
+use Rattle.network.specs.declared.Cap.the-variants.{AtMost}
 use Rattle.network.specs.declared.Cause.{Cause}
 use Rattle.network.specs.declared.Verdict.{Verdict}
 use Rattle.network.specs.declared.Verdict.the-variants.{Accepted, Refused as Refusal}
-use Rattle.network.specs.CaseSplit.{by-lt}
 use Rattle.network.specs.Network.{Network, network, mostNodes, mostArcs}
 use Rattle.network.specs.Query.{Query, query}
 use Rattle.network.specs.Refusal.{firstRefusal, badNodeCount, badArcLists, badPotentialLists, listRows, listVerdict, tripVerdict, mapVerdict, queryVerdict}
 use Rattle.network.specs.RefusalLaws.{query-of-sound-lists, network-of-sound-lists}
 use Rattle.nba.specs.State.{State, present}
-use Rattle.nba.specs.Search.{endState}
-use Rattle.nba.specs.Result.{pathOf, answerAt, figuresIn, found, answerTo}
+use Rattle.nba.specs.Search.{stateAt}
+use Rattle.nba.specs.Result.{pathOf, figuresIn, excess, foundAt, answerToAt, turnsGiven}
 use Rattle.search.specs.Tables.{atFront}
-use Rattle.search.specs.Promise.{LentLists, shownPath, listsAfter, Left, left, searchLeaves}
-use Rattle.frames.specs.Frame.{mostDigits, frameOf, patternDigits, entriesOf, patternOf}
-use Rattle.frames.specs.FrameCases.{too-long}
-use Rattle.frames.specs.LineSteps.{length-entries}
-use Rattle.frames.specs.declared.Frame.{Frame}
-use Rattle.frames.specs.declared.Frame.the-variants.{Size, Arc, TwoWay, Potentials, Query as QueryFrame, Unsound}
+use Rattle.search.specs.Promise.{LentLists, shownPath, listsAt, Left, left, searchLeavesAt}
+use Rattle.frames.specs.Frame.{patternOf}
+use Rattle.frames.specs.LineSteps.{pattern-short}
+use Rattle.frames.specs.declared.Frame.the-variants.{Query as QueryFrame}
 use Rattle.frames.specs.AnswerLines.{answerLine, pathLine, answerLines}
 use Rattle.frames.specs.Room.{laid, Laid, Placed}
 use Rattle.frames.specs.RoomLaws.{placed-laid}
@@ -37,37 +36,50 @@ use Rattle.district.specs.declared.Reader.{Reader}
 use Rattle.district.specs.File.{workRoom, queryLines, queryOn, withQuery, wrong, taken, takeQuery}
 use Rattle.district.specs.Reader.{Lists as DistrictLists, toldBy, fileOf, Counted, Roomy, Kept}
 use Rattle.district.specs.Inner.{AllRead, Known}
+use Rattle.district.specs.CappedLaws.{capped-lines, by-found}
 use Rattle.district.specs.ReaderLaws.{with-all}
 
--- the lines of what a search found, from the path list that it leaves
-front-lines : (q : Query) (st : State) (old : List ℕ) (t : Bool) (path : List ℕ) → path ≡ pathOf q st
-    → answerLines (cond t (Route (st .best) (length path) (figuresIn (st .states))) (NoRoute (figuresIn (st .states)))) (cond t path [] ++ drop (length (cond t path [])) old)
-    ≡ answerLines (cond t (Route (st .best) (length path) (figuresIn (st .states))) (NoRoute (figuresIn (st .states)))) path
-front-lines q st old false path e = refl
-front-lines q st old true path e =
-    ap (λ (p : List ℕ). answerLine (Route (st .best) (length path) (figuresIn (st .states))) ++ pathLine p)
-    (take-at path (drop (length path) old) (length path) refl ∙ sym (take-all (length path) path (le-refl (length path))))
+module _ (q : Query) (cap : ℕ) where
+  -- where there is a best length, the path is at the front of the list that the search leaves
+  path-in-front : (old : List ℕ) → present (stateAt q cap .best) ≡ true
+      → take (length (pathOf q (stateAt q cap))) (atFront (shownPath q (stateAt q cap)) old) ≡ take (length (pathOf q (stateAt q cap))) (pathOf q (stateAt q cap))
+  unfolding atFront shownPath
+  path-in-front old here =
+      let path : List ℕ = pathOf q (stateAt q cap) in
+      rw here (take-at path (drop (length path) old) (length path) refl ∙ sym (take-all (length path) path (le-refl (length path))))
 
-found-lines : (q : Query) (old : List ℕ) → answerLines (found q) (atFront (shownPath q (endState q)) old) ≡ answerLines (found q) (pathOf q (endState q))
-unfolding found answerAt atFront shownPath
-found-lines q old = front-lines q (endState q) old (present (endState q .best)) (pathOf q (endState q)) refl
+  -- so the lines of what it found, from that list, are those from the path
+  found-lines : (old : List ℕ) → answerLines (foundAt q cap) (atFront (shownPath q (stateAt q cap)) old) ≡ answerLines (foundAt q cap) (pathOf q (stateAt q cap))
+  found-lines old =
+      let n : ℕ = length (pathOf q (stateAt q cap)) in
+      let st : State = stateAt q cap in
+      by-found q cap (λ (a : Answer). answerLines a (atFront (shownPath q st) old) ≡ answerLines a (pathOf q st))
+      (λ here. ap (λ (p : List ℕ). answerLine (Route (st .best) n (figuresIn (st .states))) ++ pathLine p) (path-in-front old here))
+      (λ here. ap (λ (p : List ℕ). answerLine (Provisional (st .best) (excess q st) n (figuresIn (st .states))) ++ pathLine p) (path-in-front old here))
+      (λ _. refl)
+      (λ _. refl)
 
-searched-lines : (q : Query) (l : LentLists) → answerLines (found q) (listsAfter q l .path) ≡ answerLines (found q) (pathOf q (endState q))
-unfolding listsAfter
-searched-lines q l = found-lines q (l .path)
+  searched-lines : (l : LentLists) → answerLines (foundAt q cap) (listsAt q cap l .path) ≡ answerLines (foundAt q cap) (pathOf q (stateAt q cap))
+  unfolding listsAt
+  searched-lines l = found-lines (l .path)
 
--- what the search of an accepted query leaves is printed as the definition says
-pub left-lines : (q : Query) (l : LentLists) (a : Answer) (after : LentLists) → queryVerdict q workRoom ≡ Accepted → left a after ≡ searchLeaves q l → answerLines a (after .path) ≡ queryLines q
-unfolding queryLines answerTo
-left-lines q l a after e h =
-    let x : a ≡ found q = ap (λ (y : Left). y .answer) h in
-    let p : after .path ≡ listsAfter q l .path = ap (λ (y : Left). y .lists .path) h in
-    rw (e, x, p) (searched-lines q l)
+  -- what the search of an accepted query leaves is printed as the definition says
+  pub left-lines : (l : LentLists) (a : Answer) (after : LentLists) → queryVerdict q workRoom ≡ Accepted → left a after ≡ searchLeavesAt q cap l → answerLines a (after .path) ≡ queryLines (AtMost cap) q
+  unfolding queryLines answerToAt
+  left-lines l a after e h =
+      let x : a ≡ foundAt q cap = ap (λ (y : Left). y .answer) h in
+      let p : after .path ≡ listsAt q cap l .path = ap (λ (y : Left). y .lists .path) h in
+      rw (e, x, p) (searched-lines l)
 
--- a refused query prints its refusal
-pub refused-lines : (q : Query) (c : Cause) → queryVerdict q workRoom ≡ Refusal c → answerLines (Refused c) [] ≡ queryLines q
-unfolding queryLines answerTo
-refused-lines q c e = rw e
+  -- a refused query prints its refusal
+  pub refused-lines : (c : Cause) → queryVerdict q workRoom ≡ Refusal c → answerLines (Refused c) [] ≡ queryLines (AtMost cap) q
+  unfolding queryLines answerToAt
+  refused-lines c e = rw e
+
+-- a query prints what it prints with the turns that it gives
+pub given-lines : (c : Cap) (nodes turns : ℕ) → ((q : Query) → q .network .nodes ≡ nodes → turns ≡ turnsGiven c q)
+    → (q : Query) → q .network .nodes ≡ nodes → queryLines (AtMost turns) q ≡ queryLines c q
+given-lines c nodes turns given q e = ap (λ (n : ℕ). queryLines (AtMost n) q) (given q e) ∙ sym (capped-lines c q)
 
 -- ---- the verdict on a query, from the trip's and the network's own
 pub verdict-parts : {own : Verdict} {g : Network} {h k : List ℤ} → Known own g h k → (s e : ℕ) (p : List ℕ)
@@ -99,23 +111,7 @@ known-by r l kept all =
       own-is = kept .judged ∙ with-all r _ _ _ _ _ all;
     }
 
-entries-short : (g : Frame) (ds : List ℕ) → length ds ≤ 255 → length (entriesOf g ds) ≤ 255
-entries-short (QueryFrame a b n) ds h = h
-entries-short (Size n m) ds h = omega arith
-entries-short (Arc t a w) ds h = omega arith
-entries-short (TwoWay t a w) ds h = omega arith
-entries-short (Potentials v a k) ds h = omega arith
-entries-short Unsound ds h = omega arith
-
--- a line's pattern has at most 255 entries
-pub pattern-short : (s : List ℕ) → length (patternOf s) ≤ 255
-unfolding patternOf
-pattern-short s =
-    by-lt mostDigits (length s)
-    (λ long. rw (← too-long s long) (omega arith))
-    (λ short. entries-short (frameOf s) (patternDigits s) (omega (arith, length-entries s)))
-
--- so a list of 255 entries takes it whole
+-- a line's pattern has at most 255 entries, so a list of 255 takes it whole
 pub pattern-whole : (s entries after : List ℕ) (n : ℕ) → length entries ≡ 255 → Placed (patternOf s) entries after n → Laid (patternOf s) entries after n
 pattern-whole s entries after n room p = placed-laid (patternOf s) entries after n (omega (arith, pattern-short s)) p
 
@@ -128,13 +124,13 @@ pub placed-as : {text text′ room after : List ℕ} {n : ℕ} → text ≡ text
 placed-as {text} {text′} {room} {after} {n} e h = subst (λ (t : List ℕ). Placed t room after n) e h
 
 -- a query that may be asked, and one too many
-module _ (r : Reader) (l : DistrictLists) (s e n : ℕ) where
-  pub one-too-many : (r .single && r .asked) ≡ true → wrong (fileOf r l) (QueryFrame s e n) ≡ takeQuery (fileOf r l) (QueryFrame s e n)
+module _ (r : Reader) (l : DistrictLists) (s e : ℕ) (c : Cap) (n : ℕ) where
+  pub one-too-many : (r .single && r .asked) ≡ true → wrong (fileOf r l) (QueryFrame s e c n) ≡ takeQuery (fileOf r l) (QueryFrame s e c n)
   unfolding takeQuery fileOf toldBy
   one-too-many h = rw h
 
   pub may-be-asked : (r .single && r .asked) ≡ false
-      → taken (fileOf r l) (withQuery (toldBy r l)) (queryLines (queryOn (toldBy r l) s e (patternOf (take (r .held) (l .line)))))
-      ≡ takeQuery (fileOf r l) (QueryFrame s e n)
+      → taken (fileOf r l) (withQuery (toldBy r l)) (queryLines c (queryOn (toldBy r l) s e (patternOf (take (r .held) (l .line)))))
+      ≡ takeQuery (fileOf r l) (QueryFrame s e c n)
   unfolding takeQuery fileOf toldBy
   may-be-asked h = rw h

@@ -10,6 +10,7 @@ use native.Mathlib.Omega.{arith}
 use lib.Dec.{eqb, ltb, leb}
 use lib.ListN.{length, length-append, length-map}
 use borrow.Author.Tests.{eq-eqb, ne-eqb, le-ltb, eqb-true, eqb-false, leb-true, ltb-true, ltb-false, not-true}
+use Rattle.network.specs.declared.Cap.{Cap}
 use Rattle.network.specs.declared.Cause.{Cause}
 use Rattle.network.specs.declared.Cause.the-variants.{NodeCount, ArcLists}
 use Rattle.network.specs.declared.Verdict.the-variants.{Accepted, Refused}
@@ -96,7 +97,7 @@ module _ (single : Bool) (t : Told) (f : Fits t) where
         backward-long = omega (arith, length-append (t .backward) (k ∷ []), length-append (t .forward) (h ∷ []), f .backward-long);
         nodes-within = omega (arith, length-append (t .forward) (h ∷ []));
       }))
-  fits-next (QueryFrame a b n) m s =
+  fits-next (QueryFrame a b c n) m s =
       record {
         few-nodes = f .few-nodes;
         few-arcs = f .few-arcs;
@@ -154,11 +155,11 @@ module _ (t : Told) (f : Fits t) (all : potentialsRead t ≡ true) (s e : ℕ) (
 
 -- a query that is taken, and refused: its number is 4, 5, 7, 8 or 9
 pub query-refused-with : (single : Bool) (first : ℕ) (bytes : List ℕ) (i : ℕ) → i < lineCount bytes → ((j : ℕ) → j ≤ i → TakenAfter single first bytes j)
-    → {s e n : ℕ} → frameAfter bytes i ≡ QueryFrame s e n → (p : List ℕ) (c : Cause)
+    → {s e n : ℕ} {cap : Cap} → frameAfter bytes i ≡ QueryFrame s e cap n → (p : List ℕ) (c : Cause)
     → queryVerdict (queryOn (toldAfter bytes i) s e p) workRoom ≡ Refused c → QueryNumber (numberOf c)
 unfolding mayStand
-query-refused-with single first bytes i h taken {s} {e} {n} frame p c v =
-    let stands : mayStand single (toldAfter bytes i) (QueryFrame s e n) ≡ true = subst (λ (g : Frame). mayStand single (toldAfter bytes i) g ≡ true) frame (taken i (omega arith) .may-stand) in
+query-refused-with single first bytes i h taken {s} {e} {n} {cap} frame p c v =
+    let stands : mayStand single (toldAfter bytes i) (QueryFrame s e cap n) ≡ true = subst (λ (g : Frame). mayStand single (toldAfter bytes i) g ≡ true) frame (taken i (omega arith) .may-stand) in
     both-true (potentialsRead (toldAfter bytes i)) (not (single && toldAfter bytes i .asked)) stands
     (λ all _. held-numbered (toldAfter bytes i) (fits-after single first bytes i (omega arith) (λ j l. taken j (omega arith))) all s e p
     (given-exactly-when (queryOn (toldAfter bytes i) s e p) workRoom (numberOf c) (placeOf c) .0 (rw v (by-cause c)) .holds))

@@ -132,3 +132,7 @@ mostBytes = 31 + 3 + 4 * mostNodes
 -- the bytes of a refusal's line
 abbrev pub refusalBytes : ℕ
 refusalBytes = 13
+
+-- the fewest bytes of an answer: an undecided's line
+abbrev pub fewestBytes : ℕ
+fewestBytes = 7

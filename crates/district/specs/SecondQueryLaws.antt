@@ -1,6 +1,6 @@
 -- What the display is answered. Where no second query line stands, or a file refusal comes before it, the display is answered
 -- what `routeline` prints. Where one stands, it is answered what `routeline` prints for the file up to that line, and then 11
--- there. The argument: a line is judged alike by both, unless it is a sound 04 after a query that was taken. Assumes nothing.
+-- there. The argument: a line is judged alike by both, unless it is a sound query after one that was taken. Assumes nothing.
 use mathlib.Core.Path.{_≡_, refl, sym, ap, _∙_}
 use mathlib.Core.Bool.{Bool, true, false, not, _&&_, and-false}
 use mathlib.Core.List.{List, [], _∷_, _++_, append-assoc}
@@ -33,7 +33,7 @@ module _ (n : ℕ) (t : Told) where
   -- any other line than a second query's may stand for the display where it may for `routeline`
   stand-alike : (g : Frame) → (isQuery g ≡ true → t .asked ≡ true → ⊥) → mayStand true t g ≡ mayStand false t g
   unfolding mayStand
-  stand-alike (QueryFrame s e k) first = by-bool (t .asked) (λ a. absurd (first refl a)) (λ a. rw a)
+  stand-alike (QueryFrame s e c k) first = by-bool (t .asked) (λ a. absurd (first refl a)) (λ a. rw a)
   stand-alike (Size a b) first = refl
   stand-alike (Arc a b w) first = refl
   stand-alike (TwoWay a b w) first = refl
@@ -47,7 +47,7 @@ module _ (n : ℕ) (t : Told) where
   -- and the display refuses that one with 11
   verdict-again : (g : Frame) → isQuery g ≡ true → t .asked ≡ true → frameVerdict true n t g ≡ Refused (MisplacedLine n)
   unfolding frameVerdict mayStand firstRefusal
-  verdict-again (QueryFrame s e k) query asked = rw (asked, and-false (potentialsRead t)) (by-bool (eqb n lastLine) (λ p. rw p) (λ p. rw p))
+  verdict-again (QueryFrame s e c k) query asked = rw (asked, and-false (potentialsRead t)) (by-bool (eqb n lastLine) (λ p. rw p) (λ p. rw p))
   verdict-again (Size a b) query asked = absurd (true≢false query refl)
   verdict-again (Arc a b w) query asked = absurd (true≢false query refl)
   verdict-again (TwoWay a b w) query asked = absurd (true≢false query refl)
@@ -98,7 +98,7 @@ module _ (t : Told) (c : Complete t) where
             (both-true (arcsRead t) (potentialsOwed t && eqb v (length (t .forward))) m
             (λ _ p. both-true (potentialsOwed t) (eqb v (length (t .forward))) p (λ o _. true≢false o (potentials-there q))));
       }
-  complete-next (QueryFrame s e k) m = record { read = λ _. both-true (potentialsRead t) true m (λ p _. p) }
+  complete-next (QueryFrame s e d k) m = record { read = λ _. both-true (potentialsRead t) true m (λ p _. p) }
   complete-next Unsound m = absurd (true≢false m refl)
 
 -- ---- the lines from line n on

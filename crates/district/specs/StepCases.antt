@@ -6,6 +6,7 @@ use mathlib.Core.List.{List, []}
 use Prim.Native.Nat.{ℕ, _-_}
 use lib.Dec.{eqb, ltb, leb}
 use lib.ListN.{length}
+use Rattle.network.specs.declared.Cap.{Cap}
 use Rattle.network.specs.declared.Cause.{Cause}
 use Rattle.network.specs.declared.Cause.the-variants.{MisplacedLine}
 use Rattle.network.specs.CaseSplit.{cases}
@@ -25,7 +26,7 @@ module _ (f : File) (P : FileStep → Type 0) (on-refusal : (c : Cause) → P (r
 
   -- a line that is read is refused, or adds to what is told, or is a query, and then none too many
   module _ (on-told : (t : Told) → t .asked ≡ f .told .asked → P (taken f t []))
-      (on-query : (t : Told) (q : Query) → t .asked ≡ true → (f .single && f .told .asked) ≡ false → P (taken f t (queryLines q))) where
+      (on-query : (t : Told) (c : Cap) (q : Query) → t .asked ≡ true → (f .single && f .told .asked) ≡ false → P (taken f t (queryLines c q))) where
     by-size : (g : Frame) → P (takeSize f g)
     unfolding takeSize
     by-size (Size n m) =
@@ -33,7 +34,7 @@ module _ (f : File) (P : FileStep → Type 0) (on-refusal : (c : Cause) → P (r
     by-size (Arc t h w) = on-refusal _
     by-size (TwoWay t h w) = on-refusal _
     by-size (Potentials v h k) = on-refusal _
-    by-size (QueryFrame s e n) = on-refusal _
+    by-size (QueryFrame s e c n) = on-refusal _
     by-size Unsound = on-refusal _
 
     by-arcs : (g : Frame) → P (takeArcs f g)
@@ -48,12 +49,12 @@ module _ (f : File) (P : FileStep → Type 0) (on-refusal : (c : Cause) → P (r
     by-potentials (Size n m) = on-refusal _
     by-potentials (Arc t h w) = on-refusal _
     by-potentials (TwoWay t h w) = on-refusal _
-    by-potentials (QueryFrame s e n) = on-refusal _
+    by-potentials (QueryFrame s e c n) = on-refusal _
     by-potentials Unsound = on-refusal _
 
     by-query : (g : Frame) → P (takeQuery f g)
     unfolding takeQuery
-    by-query (QueryFrame s e n) = cases P (f .single && f .told .asked) (λ _. on-refusal _) (λ none. on-query _ _ refl none)
+    by-query (QueryFrame s e c n) = cases P (f .single && f .told .asked) (λ _. on-refusal _) (λ none. on-query _ c _ refl none)
     by-query (Size n m) = on-refusal _
     by-query (Arc t h w) = on-refusal _
     by-query (TwoWay t h w) = on-refusal _

@@ -259,7 +259,7 @@ potentials-taken r next v h k own {tails} {heads} {weights} {forward} {backward}
           });
     }
 
--- ---- 04
+-- ---- 04 and 07
 abbrev pub with-query : Reader → Reader
 with-query r =
     record {

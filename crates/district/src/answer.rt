@@ -4,8 +4,9 @@ ghost use mathlib.Core.Path.{_≡_};
 ghost use mathlib.Core.Bool.{_&&_};
 ghost use mathlib.Core.List.{[], _∷_};
 ghost use Rattle.network.specs.Network.{network};
-ghost use Rattle.network.specs.Query.{query};
+ghost use Rattle.network.specs.Query.{Query, query};
 ghost use Rattle.network.specs.Refusal.{firstRefusal, tripVerdict, queryVerdict};
+ghost use Rattle.nba.specs.Result.{turnsGiven};
 ghost use Rattle.frames.specs.Frame.{patternOf};
 ghost use Rattle.frames.specs.Room.{Placed};
 ghost use Rattle.district.specs.File.{workRoom, queryLines, takeQuery};
@@ -16,6 +17,7 @@ use crate::Reader;
 use crate::Taken;
 use crate::frame;
 use frames::Frame;
+use network::Cap;
 use network::Lent;
 use network::Verdict;
 
@@ -39,7 +41,7 @@ fn verdict_on(own: Verdict, nodes: u16, start: u16, end: u16, pattern: &[u8]) ->
     own
 }
 
-// The lines of an accepted query's answer: it is searched.
+// The lines of the answer of an accepted query that gives so many turns: it is searched.
 fn write_found(
     nodes: u16,
     tails: &[u16],
@@ -50,10 +52,11 @@ fn write_found(
     start: u16,
     end: u16,
     pattern: &[u8],
+    turns: u16,
     room: &mut [u8],
 ) -> usize
     requires { ⌜ queryVerdict (query (network nodes (now tails) (now heads) (now weights)) (now forward) (now backward) start end (now pattern)) workRoom ≡ Verdict.Accepted ⌝ }
-    ensures { λ r. ⌜ Placed (queryLines (query (network nodes (now (tails .entry)) (now (heads .entry)) (now (weights .entry))) (now (forward .entry)) (now (backward .entry)) start end (now (pattern .entry)))) (now (room .entry)) (now (room .exit)) r ⌝ }
+    ensures { λ r. ⌜ Placed (queryLines (Cap.AtMost turns) (query (network nodes (now (tails .entry)) (now (heads .entry)) (now (weights .entry))) (now (forward .entry)) (now (backward .entry)) start end (now (pattern .entry)))) (now (room .entry)) (now (room .exit)) r ⌝ }
 {
     let mut start_labels = [0u32; MOST_NODES];
     let mut start_neighbours = [0u16; MOST_NODES];
@@ -71,6 +74,7 @@ fn write_found(
         start,
         end,
         pattern,
+        turns,
         &mut start_labels,
         &mut start_neighbours,
         &mut end_labels,
@@ -81,7 +85,7 @@ fn write_found(
     frames::write_answer(room, answer, &path)
 }
 
-// The lines of a query's answer, on a network whose own verdict is known.
+// The lines of the answer of a query that gives so many turns, on a network whose own verdict is known.
 fn write_lines(
     own: Verdict,
     nodes: u16,
@@ -93,10 +97,11 @@ fn write_lines(
     start: u16,
     end: u16,
     pattern: &[u8],
+    turns: u16,
     room: &mut [u8],
 ) -> usize
     requires { ⌜ Known own (network nodes (now tails) (now heads) (now weights)) (now forward) (now backward) ⌝ }
-    ensures { λ r. ⌜ Placed (queryLines (query (network nodes (now (tails .entry)) (now (heads .entry)) (now (weights .entry))) (now (forward .entry)) (now (backward .entry)) start end (now (pattern .entry)))) (now (room .entry)) (now (room .exit)) r ⌝ }
+    ensures { λ r. ⌜ Placed (queryLines (Cap.AtMost turns) (query (network nodes (now (tails .entry)) (now (heads .entry)) (now (weights .entry))) (now (forward .entry)) (now (backward .entry)) start end (now (pattern .entry)))) (now (room .entry)) (now (room .exit)) r ⌝ }
 {
     let verdict = verdict_on(own, nodes, start, end, pattern);
     if let Verdict::Refused(cause) = verdict {
@@ -112,6 +117,7 @@ fn write_lines(
         start,
         end,
         pattern,
+        turns,
         room,
     )
 }
@@ -128,10 +134,11 @@ fn answer_query(
     start: u16,
     end: u16,
     line: &[u8],
+    turns: u16,
     room: &mut [u8],
 ) -> usize
     requires { ⌜ Known own (network nodes (now tails) (now heads) (now weights)) (now forward) (now backward) ⌝ }
-    ensures { λ r. ⌜ Placed (queryLines (query (network nodes (now (tails .entry)) (now (heads .entry)) (now (weights .entry))) (now (forward .entry)) (now (backward .entry)) start end (patternOf (now (line .entry))))) (now (room .entry)) (now (room .exit)) r ⌝ }
+    ensures { λ r. ⌜ Placed (queryLines (Cap.AtMost turns) (query (network nodes (now (tails .entry)) (now (heads .entry)) (now (weights .entry))) (now (forward .entry)) (now (backward .entry)) start end (patternOf (now (line .entry))))) (now (room .entry)) (now (room .exit)) r ⌝ }
 {
     let mut entries = [0u8; frames::MOST_PATTERN];
     let n = frames::pattern(line, &mut entries);
@@ -146,8 +153,20 @@ fn answer_query(
         start,
         end,
         &entries[..n],
+        turns,
         room,
     )
+}
+
+// The turns that a query gives its search: as many as its cap says, and without one as many as there are nodes, which always
+// suffice.
+fn turns_given(cap: Cap, nodes: u16) -> u16
+    ensures { λ r. ⌜ ((q : Query) → q .network .nodes ≡ nodes → r ≡ turnsGiven cap q) ⌝ }
+{
+    let Cap::AtMost(turns) = cap else {
+        return nodes;
+    };
+    turns
 }
 
 // Whether a query that comes now is the second in a file that may have one only.
@@ -160,7 +179,7 @@ fn one_too_many(reader: Reader) -> bool
     false
 }
 
-// A 04 where a query may stand. A second one in a file that may have one only is 11.
+// A 04 or a 07 where a query may stand. A second one in a file that may have one only is 11.
 pub fn take_query(
     reader: Reader,
     frame: Frame,
@@ -180,6 +199,7 @@ pub fn take_query(
     let Frame::Query {
         start,
         end,
+        cap,
         entries: _,
     } = frame
     else {
@@ -192,6 +212,7 @@ pub fn take_query(
     let arcs = reader.arcs_read;
     let nodes = reader.nodes_read;
     let own = reader.verdict;
+    let turns = turns_given(cap, reader.nodes);
     let written = answer_query(
         own,
         reader.nodes,
@@ -203,6 +224,7 @@ pub fn take_query(
         start,
         end,
         &line[..held],
+        turns,
         room,
     );
     let mut next = frame::next_line(reader);

@@ -2,7 +2,8 @@
 use mathlib.Core.Path.{refl, sym}
 use native.Mathlib.Omega.{arith}
 use lib.Seq.{length-take-le}
-use Rattle.district.specs.QueryLaws.{pattern-short, pattern-whole, laid-front}
+use Rattle.frames.specs.LineSteps.{pattern-short}
+use Rattle.district.specs.QueryLaws.{pattern-whole, laid-front}
 use borrow.Author.Needs.{needs}
 use Rattle.district.proofs.answer.answer_query.Statement.{statement}
 use Rattle.district.proofs.answer.answer_query.Tie as tie

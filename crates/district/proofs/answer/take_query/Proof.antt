@@ -1,11 +1,11 @@
 -- `answer::take_query` meets its contract: the query is on as many entries of each list as the reader counts. Assumes nothing.
-use mathlib.Core.Path.{sym, _∙_}
+use mathlib.Core.Path.{refl, sym, _∙_}
 use native.Mathlib.Omega.{arith}
 use lib.Seq.{length-take-le}
 use Rattle.district.specs.Reader.{toldBy, fileOf}
 use Rattle.district.specs.ReaderLaws.{stepped-as}
 use Rattle.district.specs.TakenLaws.{query-taken}
-use Rattle.district.specs.QueryLaws.{known-by, one-too-many, may-be-asked}
+use Rattle.district.specs.QueryLaws.{known-by, placed-as, given-lines, one-too-many, may-be-asked}
 use Rattle.district.proofs.OtherFrames.{not-among, no-query}
 use borrow.Author.Needs.{needs}
 use Rattle.district.proofs.answer.take_query.Statement.{statement}
@@ -43,41 +43,44 @@ returns-2 c =
     let one-too-many-here = c .before .before .before .before .before .one-too-many in
     let if1 = c .before .before .before .before .if1 in
     let refuse-frame2 = c .before .before .refuse-frame2 in
-    stepped-as (rw (frame .given .1) (one-too-many _ _ _ _ _ (sym (one-too-many-here .ensures) ∙ if1 .taken))) (refuse-frame2 .ensures .law _ (entry .pre .1 .1))
+    stepped-as (rw (frame .given .1) (one-too-many _ _ _ _ _ _ (sym (one-too-many-here .ensures) ∙ if1 .taken))) (refuse-frame2 .ensures .law _ (entry .pre .1 .1))
+
+turns-given-requires : tie.Need-turns-given-requires
+turns-given-requires c κs = search needs
 
 slice-aggregate-answer-query : tie.Need-slice-aggregate-answer-query
 slice-aggregate-answer-query c =
-    let entry = c .before .before .before .before .before .before .before .before .before .before .before in
+    let entry = c .before .before .before .before .before .before .before .before .before .before .before .before in
     sym (length-take-le _ _ (omega (arith, entry .pre .1 .1 .counted, entry .pre .1 .1 .roomy)))
 
 slice-aggregate-answer-query-2 : tie.Need-slice-aggregate-answer-query-2
 slice-aggregate-answer-query-2 c =
-    let entry = c .before .before .before .before .before .before .before .before .before .before .before .before in
+    let entry = c .before .before .before .before .before .before .before .before .before .before .before .before .before in
     sym (length-take-le _ _ (omega (arith, entry .pre .1 .1 .counted, entry .pre .1 .1 .roomy)))
 
 slice-aggregate-answer-query-3 : tie.Need-slice-aggregate-answer-query-3
 slice-aggregate-answer-query-3 c =
-    let entry = c .before .before .before .before .before .before .before .before .before .before .before .before .before in
+    let entry = c .before .before .before .before .before .before .before .before .before .before .before .before .before .before in
     sym (length-take-le _ _ (omega (arith, entry .pre .1 .1 .counted, entry .pre .1 .1 .roomy)))
 
 slice-aggregate-answer-query-4 : tie.Need-slice-aggregate-answer-query-4
 slice-aggregate-answer-query-4 c =
-    let entry = c .before .before .before .before .before .before .before .before .before .before .before .before .before .before in
+    let entry = c .before .before .before .before .before .before .before .before .before .before .before .before .before .before .before in
     sym (length-take-le _ _ (omega (arith, entry .pre .1 .1 .counted, entry .pre .1 .1 .roomy)))
 
 slice-aggregate-answer-query-5 : tie.Need-slice-aggregate-answer-query-5
 slice-aggregate-answer-query-5 c =
-    let entry = c .before .before .before .before .before .before .before .before .before .before .before .before .before .before .before in
+    let entry = c .before .before .before .before .before .before .before .before .before .before .before .before .before .before .before .before in
     sym (length-take-le _ _ (omega (arith, entry .pre .1 .1 .counted, entry .pre .1 .1 .roomy)))
 
 slice-aggregate-answer-query-6 : tie.Need-slice-aggregate-answer-query-6
 slice-aggregate-answer-query-6 c =
-    let entry = c .before .before .before .before .before .before .before .before .before .before .before .before .before .before .before .before in
+    let entry = c .before .before .before .before .before .before .before .before .before .before .before .before .before .before .before .before .before in
     sym (length-take-le _ _ (omega (arith, entry .pre .1 .1 .counted, entry .pre .1 .1 .roomy)))
 
 answer-query-requires : tie.Need-answer-query-requires
 answer-query-requires c κs =
-    let entry = c .before .before .before .before .before .before .before .before .before .before .before .before .before .before .before .before .before in
+    let entry = c .before .before .before .before .before .before .before .before .before .before .before .before .before .before .before .before .before .before in
     known-by (entry .args .reader) _ (entry .pre .1 .1) (entry .pre .1 .0)
 
 next-line-requires : tie.Need-next-line-requires
@@ -89,14 +92,15 @@ same-length-3 c = search needs
 returns-3 : tie.Need-returns-3
 unfolding toldBy
 returns-3 c =
-    let entry = c .before .before .before .before .before .before .before .before .before .before .before .before .before .before .before .before .before .before .before .before .before in
-    let frame = c .before .before .before .before .before .before .before .before .before .before .before .before .before .before .frame in
-    let one-too-many-here = c .before .before .before .before .before .before .before .before .before .before .before .before .one-too-many in
-    let if1 = c .before .before .before .before .before .before .before .before .before .before .before .if1 in
+    let entry = c .before .before .before .before .before .before .before .before .before .before .before .before .before .before .before .before .before .before .before .before .before .before in
+    let frame = c .before .before .before .before .before .before .before .before .before .before .before .before .before .before .before .frame in
+    let one-too-many-here = c .before .before .before .before .before .before .before .before .before .before .before .before .before .one-too-many in
+    let if1 = c .before .before .before .before .before .before .before .before .before .before .before .before .if1 in
+    let turns-given = c .before .before .before .before .before .before .before .before .before .before .before .turns-given in
     let answer-query = c .before .before .before .answer-query in
     let r = entry .args .reader in
-    stepped-as (rw (frame .given .1) (may-be-asked r _ _ _ _ (sym (one-too-many-here .ensures) ∙ if1 .left)))
-    (query-taken r _ _ _ _ _ _ (c .next-line .ensures) (entry .pre .1 .1) (answer-query .ensures))
+    stepped-as (rw (frame .given .1) (may-be-asked r _ _ _ _ _ (sym (one-too-many-here .ensures) ∙ if1 .left)))
+    (query-taken r _ _ _ _ _ _ (c .next-line .ensures) (entry .pre .1 .1) (placed-as (given-lines (frame .given .0 .1 .1 .0) _ _ (turns-given .ensures) _ refl) (answer-query .ensures)))
 
 pub take-query-spec : {M : Type 1} → statement M
 take-query-spec =
@@ -110,6 +114,7 @@ take-query-spec =
     refuse-frame-requires-2
     same-length-2
     returns-2
+    turns-given-requires
     slice-aggregate-answer-query
     slice-aggregate-answer-query-2
     slice-aggregate-answer-query-3

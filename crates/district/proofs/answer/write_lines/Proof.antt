@@ -23,7 +23,7 @@ returns c =
     let verdict-on = c .before .before .before .before .before .before .before .verdict-on in
     let verdict = c .before .before .before .before .before .verdict in
     let write-refusal = c .before .before .write-refusal in
-    placed-as (refused-lines _ _ (sym (verdict-on .ensures ∙ verdict-parts (entry .pre) _ _ _) ∙ verdict .given .1)) (write-refusal .ensures)
+    placed-as (refused-lines _ _ _ (sym (verdict-on .ensures ∙ verdict-parts (entry .pre) _ _ _) ∙ verdict .given .1)) (write-refusal .ensures)
 
 enum-told : tie.Need-enum-told
 enum-told c = search needs
