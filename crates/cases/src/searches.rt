@@ -4,18 +4,10 @@
 use crate::lines;
 use crate::show;
 use network::Answer;
+use network::Cap;
 use network::MOST_NODES;
 use network::MOST_WEIGHT;
 ghost use Prim.Native.Nat.{_≤_};
-
-// District D5.
-const D5_NODES: u16 = 5;
-
-const D5_TAILS: [u16; 5] = [0, 1, 2, 0, 4];
-
-const D5_HEADS: [u16; 5] = [1, 2, 3, 4, 3];
-
-const D5_WEIGHTS: [u32; 5] = [1, 1, 1, 2, 2];
 
 // What the lent lists hold before a search.
 const OLD_LABEL: u32 = 77;
@@ -71,32 +63,77 @@ fn written(a: Answer, count: u16) -> Counts {
     }
 }
 
-// What a query was answered and what it left.
-fn left(
-    name: &[u8],
-    count: u16,
-    a: Answer,
-    start_labels: &[u32],
-    start_neighbours: &[u16],
-    end_labels: &[u32],
-    end_neighbours: &[u16],
-    states: &[u8],
-    path: &[u16],
-) {
-    let w = written(a, count);
-    show::answer(name, a);
-    show::nodes(b"  path:", path, w.path);
-    show::labels(b"  start labels:", start_labels, w.tables);
-    show::nodes(b"  start neighbours:", start_neighbours, w.tables);
-    show::labels(b"  end labels:", end_labels, w.tables);
-    show::nodes(b"  end neighbours:", end_neighbours, w.tables);
-    show::states(b"  states:", states, w.tables);
-    lines::answer(a, path);
+// The name of a case, with its cap if it has one.
+fn named(name: &[u8], cap: Cap) {
+    show::text(name);
+    match cap {
+        Cap::Uncapped => {}
+        Cap::AtMost(turns) => show::say(b", cap ", turns as u64),
+    }
 }
 
-// One case: what it answers and what it leaves.
+// The query, with a turn cap or without.
+fn asked(
+    cap: Cap,
+    count: u16,
+    tails: &[u16],
+    heads: &[u16],
+    weights: &[u32],
+    forward: &[i32],
+    backward: &[i32],
+    start: u16,
+    end: u16,
+    pattern: &[u8],
+    start_labels: &mut [u32],
+    start_neighbours: &mut [u16],
+    end_labels: &mut [u32],
+    end_neighbours: &mut [u16],
+    states: &mut [u8],
+    path: &mut [u16],
+) -> Answer {
+    match cap {
+        Cap::Uncapped => search::query(
+            count,
+            tails,
+            heads,
+            weights,
+            forward,
+            backward,
+            start,
+            end,
+            pattern,
+            start_labels,
+            start_neighbours,
+            end_labels,
+            end_neighbours,
+            states,
+            path,
+        ),
+        Cap::AtMost(turns) => search::capped_query(
+            count,
+            tails,
+            heads,
+            weights,
+            forward,
+            backward,
+            start,
+            end,
+            pattern,
+            turns,
+            start_labels,
+            start_neighbours,
+            end_labels,
+            end_neighbours,
+            states,
+            path,
+        ),
+    }
+}
+
+// One case, with a turn cap or without: what it answers and what it leaves.
 fn case(
     name: &[u8],
+    cap: Cap,
     count: u16,
     tails: &[u16],
     heads: &[u16],
@@ -113,7 +150,8 @@ fn case(
     let mut end_neighbours = [OLD_NODE; LENT];
     let mut states = [OLD_STATE; LENT];
     let mut path = [OLD_NODE; LENT];
-    let a = search::query(
+    let a = asked(
+        cap,
         count,
         tails,
         heads,
@@ -130,27 +168,27 @@ fn case(
         &mut states,
         &mut path,
     );
-    left(
-        name,
-        count,
-        a,
-        &start_labels,
-        &start_neighbours,
-        &end_labels,
-        &end_neighbours,
-        &states,
-        &path,
-    );
+    let w = written(a, count);
+    named(name, cap);
+    show::answer(a);
+    show::nodes(b"  path:", &path, w.path);
+    show::labels(b"  start labels:", &start_labels, w.tables);
+    show::nodes(b"  start neighbours:", &start_neighbours, w.tables);
+    show::labels(b"  end labels:", &end_labels, w.tables);
+    show::nodes(b"  end neighbours:", &end_neighbours, w.tables);
+    show::states(b"  states:", &states, w.tables);
+    lines::answer(a, &path);
 }
 
 // A query in district D5.
-fn in_d5(name: &[u8], start: u16, end: u16, pattern: &[u8]) {
+fn in_d5(name: &[u8], cap: Cap, start: u16, end: u16, pattern: &[u8]) {
     case(
         name,
-        D5_NODES,
-        &D5_TAILS,
-        &D5_HEADS,
-        &D5_WEIGHTS,
+        cap,
+        5,
+        &[0, 1, 2, 0, 4],
+        &[1, 2, 3, 4, 3],
+        &[1, 1, 1, 2, 2],
         &[0; 5],
         &[0; 5],
         start,
@@ -159,49 +197,28 @@ fn in_d5(name: &[u8], start: u16, end: u16, pattern: &[u8]) {
     );
 }
 
-// The same with a turn cap.
-fn at_cap(name: &[u8], start: u16, end: u16, pattern: &[u8], cap: u16) {
-    let mut start_labels = [OLD_LABEL; LENT];
-    let mut start_neighbours = [OLD_NODE; LENT];
-    let mut end_labels = [OLD_LABEL; LENT];
-    let mut end_neighbours = [OLD_NODE; LENT];
-    let mut states = [OLD_STATE; LENT];
-    let mut path = [OLD_NODE; LENT];
-    let a = search::capped_query(
-        D5_NODES,
-        &D5_TAILS,
-        &D5_HEADS,
-        &D5_WEIGHTS,
-        &[0; 5],
-        &[0; 5],
-        start,
-        end,
-        pattern,
-        cap,
-        &mut start_labels,
-        &mut start_neighbours,
-        &mut end_labels,
-        &mut end_neighbours,
-        &mut states,
-        &mut path,
-    );
-    left(
-        name,
-        D5_NODES,
-        a,
-        &start_labels,
-        &start_neighbours,
-        &end_labels,
-        &end_neighbours,
-        &states,
-        &path,
-    );
+// P1 to P4, which are in district D5.
+fn p1(cap: Cap) {
+    in_d5(b"P1", cap, 0, 3, &[0, 1]);
+}
+
+fn p2(cap: Cap) {
+    in_d5(b"P2", cap, 0, 3, &[1]);
+}
+
+fn p3(cap: Cap) {
+    in_d5(b"P3", cap, 2, 2, &[0, 1]);
+}
+
+fn p4(cap: Cap) {
+    in_d5(b"P4", cap, 3, 0, &[0, 1]);
 }
 
 // P5 to P10: two nodes, one arc from 0 to 1, a query from 0 to 1 and pattern 0.
 fn on_one_arc(name: &[u8], weight: u32, forward: [i32; 2], backward: [i32; 2]) {
     case(
         name,
+        Cap::Uncapped,
         2,
         &[0],
         &[1],
@@ -216,34 +233,60 @@ fn on_one_arc(name: &[u8], weight: u32, forward: [i32; 2], backward: [i32; 2]) {
 
 // P1 to P12.
 pub fn p_cases() {
-    in_d5(b"P1", 0, 3, &[0, 1]);
-    in_d5(b"P2", 0, 3, &[1]);
-    in_d5(b"P3", 2, 2, &[0, 1]);
-    in_d5(b"P4", 3, 0, &[0, 1]);
+    p1(Cap::Uncapped);
+    p2(Cap::Uncapped);
+    p3(Cap::Uncapped);
+    p4(Cap::Uncapped);
     on_one_arc(b"P5", 1, [1, 0], [0, 0]);
     on_one_arc(b"P6", 1, [2, 0], [0, 0]);
     on_one_arc(b"P7", 1000000, [0, 0], [0, 0]);
     on_one_arc(b"P8", 1000001, [0, 0], [0, 0]);
     on_one_arc(b"P9", 1, [-2047000000; 2], [-2047000000; 2]);
     on_one_arc(b"P10", 1, [-2047000001, 0], [0, 0]);
-    case(b"P11", 1, &[], &[], &[], &[0], &[0], 0, 0, &[0]);
-    case(b"P12", 2, &[0], &[1], &[1], &[0; 2], &[0; 2], 2, 1, &[]);
+    case(
+        b"P11",
+        Cap::Uncapped,
+        1,
+        &[],
+        &[],
+        &[],
+        &[0],
+        &[0],
+        0,
+        0,
+        &[0],
+    );
+    case(
+        b"P12",
+        Cap::Uncapped,
+        2,
+        &[0],
+        &[1],
+        &[1],
+        &[0; 2],
+        &[0; 2],
+        2,
+        1,
+        &[],
+    );
 }
 
-// P1 at caps from 0 to one more than the turns that it takes; P2 at a cap where the excess is 0; P3 and P4 at cap 0, and P4 at
-// the turn that ends its search.
+// P1 at each cap from 0 to one more than the turns that it takes.
+fn p1_at_caps() {
+    let mut cap: u16 = 0;
+    while cap < 7 {
+        p1(Cap::AtMost(cap));
+        cap += 1;
+    }
+}
+
+// Those, P2 at a cap where the excess is 0, P3 and P4 at cap 0, and P4 at a cap that its search ends within.
 pub fn caps() {
-    at_cap(b"P1, cap 0", 0, 3, &[0, 1], 0);
-    at_cap(b"P1, cap 1", 0, 3, &[0, 1], 1);
-    at_cap(b"P1, cap 2", 0, 3, &[0, 1], 2);
-    at_cap(b"P1, cap 3", 0, 3, &[0, 1], 3);
-    at_cap(b"P1, cap 4", 0, 3, &[0, 1], 4);
-    at_cap(b"P1, cap 5", 0, 3, &[0, 1], 5);
-    at_cap(b"P1, cap 6", 0, 3, &[0, 1], 6);
-    at_cap(b"P2, cap 4", 0, 3, &[1], 4);
-    at_cap(b"P3, cap 0", 2, 2, &[0, 1], 0);
-    at_cap(b"P4, cap 0", 3, 0, &[0, 1], 0);
-    at_cap(b"P4, cap 1", 3, 0, &[0, 1], 1);
+    p1_at_caps();
+    p2(Cap::AtMost(4));
+    p3(Cap::AtMost(0));
+    p4(Cap::AtMost(0));
+    p4(Cap::AtMost(1));
 }
 
 // Nodes in rising order from the first, 0 or 1.
@@ -299,7 +342,8 @@ pub fn chain() {
         &mut states,
         &mut path,
     );
-    show::answer(b"chain of 2,048 nodes", a);
+    show::text(b"chain of 2,048 nodes");
+    show::answer(a);
     show::say(b"  path nodes in rising order: ", in_order(&path) as u64);
     show::text(b"\n");
 }

@@ -50,9 +50,8 @@ pub fn verdict(name: &[u8], v: Verdict) {
     }
 }
 
-// An answer with its figures, on one line.
-pub fn answer(name: &[u8], a: Answer) {
-    text(name);
+// An answer with its figures, after a name, to the end of the line.
+pub fn answer(a: Answer) {
     match a {
         Answer::Route {
             length,
