@@ -1,5 +1,5 @@
 -- A turn of one side, made on the side's own lists with its arcs turned its way, is the turn that `nba` defines. Proved once,
--- over the side. Assumes nothing.
+-- over the side. And where no more turns are made, the lists stand for the state at the cap. Assumes nothing.
 use mathlib.Core.Path.{_≡_, refl, sym, ap, _∙_}
 use mathlib.Core.Bool.{true, false}
 use mathlib.Core.Logic.{_≢_}
