@@ -3,8 +3,8 @@
  *
  *   display FILE        or, with no FILE, from standard input
  *
- * Exit status: 0 a route or no route, 1 the query or the file is refused, 2 there is no answer to say, or not all of it could
- * be written (the reason stands on standard error, and what was written is not to be used).
+ * Exit status: 0 a route, no route, a provisional route or undecided, 1 the query or the file is refused, 2 there is no answer
+ * to say, or not all of it could be written (the reason stands on standard error, and what was written is not to be used).
  */
 #include <errno.h>
 #include <inttypes.h>
@@ -88,7 +88,7 @@ static void say_duration(uint32_t tenths)
 {
     uint32_t seconds = tenths / 10;
 
-    printf("Route of %" PRIu32 " %s of a second (", tenths, tenths == 1 ? "tenth" : "tenths");
+    printf("%" PRIu32 " %s of a second (", tenths, tenths == 1 ? "tenth" : "tenths");
     if (seconds >= 3600) {
         printf("%" PRIu32 " h ", seconds / 3600);
     }
@@ -108,17 +108,55 @@ static void say_figures(const uint8_t *at)
            turns, turns == 1 ? "" : "s", opened, opened == 1 ? "" : "s", field(at + 8, 4), field(at + 12, 4));
 }
 
-static void say_route(const uint8_t *line, const uint8_t *path)
+/* The line after a line that has one. */
+static const uint8_t *line_after(const uint8_t *line, const uint8_t *end)
 {
-    uint32_t nodes = field(line + 10, 4);
+    return (const uint8_t *)memchr(line, '\n', (size_t)(end - line)) + 1;
+}
 
-    say_duration(field(line + 2, 8));
-    printf(" over %" PRIu32 " node%s: ", nodes, nodes == 1 ? "" : "s");
-    for (uint32_t i = 0; i < nodes; i++) {
-        printf("%s%" PRIu32, i == 0 ? "" : ", ", field(path + 2 + 4 * (size_t)i, 4));
+/* The nodes of a path's line, four digits each after its kind; `after` is where the next line begins. */
+static void say_path(const uint8_t *path, const uint8_t *after)
+{
+    size_t nodes = (size_t)(after - path - 3) / 4;
+
+    printf(" over %zu node%s: ", nodes, nodes == 1 ? "" : "s");
+    for (size_t i = 0; i < nodes; i++) {
+        printf("%s%" PRIu32, i == 0 ? "" : ", ", field(path + 2 + 4 * i, 4));
     }
     printf(".\n");
+}
+
+static void say_route(const uint8_t *line, const uint8_t *path, const uint8_t *after)
+{
+    printf("Route of ");
+    say_duration(field(line + 2, 8));
+    say_path(path, after);
     say_figures(line + 14);
+}
+
+/* A route that can be driven, found before the search was stopped, and how much quicker another may be. */
+static void say_provisional(const uint8_t *line, const uint8_t *path, const uint8_t *after)
+{
+    uint32_t excess = field(line + 10, 8);
+
+    printf("Provisional route of ");
+    say_duration(field(line + 2, 8));
+    say_path(path, after);
+    printf("It can be driven. The search was stopped at its cap of turns");
+    if (excess == 0) {
+        printf(", but no route is quicker.\n");
+    } else {
+        printf("; the quickest route may save up to ");
+        say_duration(excess);
+        printf(", never more.\n");
+    }
+}
+
+static void say_undecided(uint32_t turns)
+{
+    printf("Undecided: the search was stopped after %" PRIu32 " turn%s, before it had a route; there may be one or none.\n"
+           "What to do: ask again with a larger cap of turns, or with none.\n",
+           turns, turns == 1 ? "" : "s");
 }
 
 /* How many bytes from `at` on, before `end`, are among `digits`. */
@@ -177,11 +215,18 @@ static int say_answer(const uint8_t *answer, size_t written, const uint8_t *file
     int refused = 0;
 
     while (at < end) {
-        const uint8_t *next = (const uint8_t *)memchr(at, '\n', (size_t)(end - at)) + 1;
+        const uint8_t *path = line_after(at, end), *next = path;
         switch (field(at, 2)) {
         case 0x81:
-            say_route(at, next);
-            next = (const uint8_t *)memchr(next, '\n', (size_t)(end - next)) + 1;
+            next = line_after(path, end);
+            say_route(at, path, next);
+            break;
+        case 0x84:
+            next = line_after(path, end);
+            say_provisional(at, path, next);
+            break;
+        case 0x85:
+            say_undecided(field(at + 2, 4));
             break;
         case 0x80:
             printf("No route leads from the start to the end.\n");

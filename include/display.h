@@ -1,9 +1,10 @@
 /*
  * display.h: the route answer of a district file, for the unit's display.
  *
- * One function. It reads the bytes of a district file with exactly one query and writes the answer lines into a room that
- * the caller lends. What it does is proved for every file and every room; how much stack it takes is measured. The archive
- * libdisplay.a is for x86-64 programs; it asks for memcpy and memset of the C library and for nothing else.
+ * One function. It reads the bytes of a district file with exactly one query, with a cap on its turns (a 07 line) or without
+ * (a 04 line), and writes the answer lines into a room that the caller lends. What it does is proved for every file and every
+ * room; how much stack it takes is measured. The archive libdisplay.a is for x86-64 programs; it asks for memcpy and memset of
+ * the C library and for nothing else.
  *
  * Compile and link a program, or make a shared object, which then exports the function:
  *   cc -std=c99 -Iinclude examples/display.c target/staticlib/libdisplay.a -o display
@@ -20,8 +21,8 @@ extern "C" {
 #endif
 
 /*
- * A room of this many bytes always suffices, and one that is smaller may not: the line of a route (31 bytes), the line of a
- * path over 2,048 nodes (8,195) and the line of a file refusal that follows the answer (13).
+ * A room of this many bytes always suffices, and one that is smaller may not: the line of a route (31 bytes; a provisional
+ * one's has 19), the line of a path over 2,048 nodes (8,195) and the line of a file refusal that follows the answer (13).
  */
 #define DISPLAY_ROOM (31 + 8195 + 13)
 
@@ -47,10 +48,13 @@ extern "C" {
  * The answer lines are, one after the other, each ended by a line feed (no 0 byte is added):
  *   81.. and 82..    a route with its figures, and its path
  *   80..             no route, with its figures
+ *   84.. and 82..    a provisional route, where the cap of a 07 stopped the search: its length, the most by which the
+ *                    shortest length may be less, and its path
+ *   85..             undecided, with its turns: the cap stopped the search before it had a route
  *   FF..             a refusal with its number and place; it may also follow the lines above, when the file goes on after
  *                    its query with what may not stand there
  *
- * Returns the count of bytes written, which is at least 13. The bytes of the room beyond them are unchanged.
+ * Returns the count of bytes written, which is at least 7. The bytes of the room beyond them are unchanged.
  * Returns 0 if the lines do not fit, and only then: no answer is empty. Then the whole room is unchanged, and a larger room
  * gives the answer.
  *

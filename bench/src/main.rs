@@ -1,5 +1,6 @@
 //! Measures `routeline` beside a fast independent engine; see README.md.
 
+mod caps;
 mod fast;
 mod measure;
 mod road;
@@ -14,9 +15,11 @@ use std::process::ExitCode;
 
 const USAGE: &str = "\
 bench run [flags]      measure and print Markdown tables
+bench caps [flags]     ask at several caps, measure nothing, and print Markdown tables
   --routeline PATH     the program (default target/bin/routeline under the repository root)
   --queries N          queries a file (default 300)
-  --out FILE           write the tables there as well; what stands above the line `<!-- tables -->` stays
+  --out FILE           write the tables there as well, below the line `<!-- tables -->`, or for `caps` between
+                       `<!-- caps -->` and it; all other words stay
 bench test             compare the fast engine with the independent model
 ";
 
@@ -27,7 +30,8 @@ const SEED: u64 = 1;
 fn main() -> ExitCode {
     let arguments: Vec<String> = env::args().skip(1).collect();
     let done = match arguments.split_first() {
-        Some((command, rest)) if command == "run" => run(rest),
+        Some((command, rest)) if command == "run" => flags(rest).and_then(run),
+        Some((command, rest)) if command == "caps" => flags(rest).and_then(caps::run),
         Some((command, _)) if command == "test" => test(),
         _ => Err(USAGE.into()),
     };
@@ -143,21 +147,29 @@ fn one_sided(
 
 // ---------------------------------------------------------------- the run
 
-fn run(arguments: &[String]) -> Result<(), String> {
-    let mut routeline = root().join("target/bin/routeline");
-    let mut queries = 300;
-    let mut out = None;
+struct Flags {
+    routeline: PathBuf,
+    queries: usize,
+    out: Option<PathBuf>,
+}
+
+fn flags(arguments: &[String]) -> Result<Flags, String> {
+    let mut flags = Flags { routeline: root().join("target/bin/routeline"), queries: 300, out: None };
     for pair in arguments.chunks(2) {
         match pair {
-            [flag, value] if flag == "--routeline" => routeline = PathBuf::from(value),
-            [flag, value] if flag == "--queries" => queries = value.parse().map_err(|_| USAGE)?,
-            [flag, value] if flag == "--out" => out = Some(PathBuf::from(value)),
+            [flag, value] if flag == "--routeline" => flags.routeline = PathBuf::from(value),
+            [flag, value] if flag == "--queries" => flags.queries = value.parse().map_err(|_| USAGE)?,
+            [flag, value] if flag == "--out" => flags.out = Some(PathBuf::from(value)),
             _ => return Err(USAGE.into()),
         }
     }
-    if !routeline.exists() {
-        return Err(format!("no program at {}; build it, or give --routeline", routeline.display()));
+    if !flags.routeline.exists() {
+        return Err(format!("no program at {}; build it, or give --routeline", flags.routeline.display()));
     }
+    Ok(flags)
+}
+
+fn run(Flags { routeline, queries, out }: Flags) -> Result<(), String> {
     let mut by_nodes = Vec::new();
     for nodes in SIZES {
         eprintln!("measuring {nodes} nodes");
@@ -173,10 +185,14 @@ fn run(arguments: &[String]) -> Result<(), String> {
         let road = Road::new(1_024, per_node, SEED);
         by_arcs.push(measure_file(&routeline, &road, "zero", Trips::Any, queries)?);
     }
-    let text = report(&by_nodes, &by_arcs, queries);
+    tell(report(&by_nodes, &by_arcs, queries), out, with_words)
+}
+
+/// Prints the tables, and puts them into a page if one is named.
+fn tell(text: String, out: Option<PathBuf>, within: fn(&str, &str) -> String) -> Result<(), String> {
     println!("{text}");
     if let Some(out) = out {
-        let page = with_words(&std::fs::read_to_string(&out).unwrap_or_default(), &text);
+        let page = within(&std::fs::read_to_string(&out).unwrap_or_default(), &text);
         std::fs::write(&out, page).map_err(|error| format!("{}: {error}", out.display()))?;
     }
     Ok(())

@@ -136,7 +136,7 @@ impl Road {
                 }
             };
             if start != end {
-                queries.push(Query { start, end, pattern: vec![0, 1] });
+                queries.push(Query::new(start, end, vec![0, 1]));
             }
         }
         queries
@@ -168,6 +168,6 @@ impl Road {
 
     /// The network alone: one query with start equal to end.
     pub fn reading_alone(&self) -> Vec<u8> {
-        self.file(&[Query { start: 0, end: 0, pattern: vec![0] }])
+        self.file(&[Query::new(0, 0, vec![0])])
     }
 }

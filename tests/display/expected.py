@@ -11,8 +11,9 @@ import sys
 
 MOST_NODES, MOST_ARCS, MOST_ENTRIES = 2048, 8192, 64
 MOST_WEIGHT, MOST_POTENTIAL = 1_000_000, 2_047_000_000
-LONGEST_LINE = 2 + 4 + 4 + 2 + 255
+LONGEST_LINE = 2 + 4 + 4 + 4 + 2 + 255
 LAST_LINE = 4_294_967_295
+QUERY = {"04": r"(.{4})(.{4})()(..)(.*)", "07": r"(.{4})(.{4})(.{4})(..)(.*)"}
 FIXED = {"01": [4, 4], "02": [4, 4, 8], "05": [4, 4, 8], "03": [4, 8, 8]}
 
 
@@ -29,7 +30,8 @@ def signed(value):
 
 
 def frame(line):
-    """(kind, fields) of a sound frame, else None. The fields of a 04 are start, end and the list of entries."""
+    """(kind, fields) of a sound frame, else None. The fields of a query, 04 or 07, are start, end, the cap (None for a 04) and
+    the list of entries."""
     if len(line) > LONGEST_LINE or not re.fullmatch(rb"[0-9A-F]+", line):
         return None
     text = line.decode("ascii")
@@ -42,8 +44,11 @@ def frame(line):
             fields.append(int(rest[:width], 16))
             rest = rest[width:]
         return kind, fields
-    if kind == "04" and len(rest) >= 10 and len(rest) == 10 + int(rest[8:10], 16):
-        return kind, [int(rest[:4], 16), int(rest[4:8], 16), [int(d, 16) for d in rest[10:]]]
+    query = kind in QUERY and re.fullmatch(QUERY[kind], rest)
+    if query:
+        start, end, cap, entries, pattern = query.groups()
+        if len(pattern) == int(entries, 16):
+            return kind, [int(start, 16), int(end, 16), int(cap, 16) if cap else None, [int(d, 16) for d in pattern]]
     return None
 
 
@@ -65,11 +70,12 @@ def first_refusal(nodes, arcs, h, k, start, end, pattern):
     return None
 
 
-def search(nodes, arcs, h, k, start, end, pattern, told=None):
-    """(length or None, path, turns, opened by the start side, by the end side, rejected); `told` is called after each turn, with
-    the labels given (None if the node was rejected) and the side's floor (None if it has no candidate left)."""
+def search(nodes, arcs, h, k, start, end, cap, pattern, told=None):
+    """(length or None, path, excess, figures), where the excess is None if the search has ended, within its cap if there is one, and
+    the figures are turns, opened by the start side, by the end side, rejected. `told` is called after each turn, with the labels
+    given (None if the node was rejected) and the side's floor (None if it has no candidate left)."""
     if start == end:
-        return 0, [start], 0, 0, 0, 0
+        return 0, [start], None, (0, 0, 0, 0)
     out, into = [[] for _ in range(nodes)], [[] for _ in range(nodes)]
     for u, v, w in arcs:
         out[u].append((v, w))
@@ -84,7 +90,7 @@ def search(nodes, arcs, h, k, start, end, pattern, told=None):
     def candidates(side):
         return [(side["label"][v] + side["pot"][v], v) for v in side["label"] if v in undecided]
 
-    while candidates(sides[0]) and candidates(sides[1]):
+    while candidates(sides[0]) and candidates(sides[1]) and turns != cap:
         turn = pattern[turns % len(pattern)]
         own, other = sides[turn], sides[1 - turn]
         _, u = min(candidates(own))
@@ -115,25 +121,28 @@ def search(nodes, arcs, h, k, start, end, pattern, told=None):
             floor = own["floor"] if left else None
             told(side=turn, node=u, label=label, given=given, best=best, floor=floor, other_floor=other["floor"])
     figures = (turns, sides[0]["opened"], sides[1]["opened"], rejected)
+    ended = not (candidates(sides[0]) and candidates(sides[1]))
     if best is None:
-        return (None, []) + figures
+        return None, [], None if ended else 0, figures
+    at_least = max(0, sides[0]["floor"] - h[end], sides[1]["floor"] - k[start])
     path = [meeting]
     while path[0] != start:
         path.insert(0, sides[0]["from"][path[0]])
     while path[-1] != end:
         path.append(sides[1]["from"][path[-1]])
-    return (best, path) + figures
+    return best, path, None if ended else max(0, best - at_least), figures
 
 
-def query_lines(nodes, arcs, h, k, start, end, pattern, told=None):
+def query_lines(nodes, arcs, h, k, start, end, cap, pattern, told=None):
     refused = first_refusal(nodes, arcs, h, k, start, end, pattern)
     if refused:
         return refusal(*refused)
-    length, path, *figures = search(nodes, arcs, h, k, start, end, pattern, told)
+    length, path, excess, figures = search(nodes, arcs, h, k, start, end, cap, pattern, told)
     shown = "".join("%04X" % n for n in figures)
     if length is None:
-        return "80" + shown + "\n"
-    return "81%08X%04X" % (length, len(path)) + shown + "\n" + "82" + "".join("%04X" % v for v in path) + "\n"
+        return "80" + shown + "\n" if excess is None else "85%04X\n" % figures[0]
+    first = "81%08X%04X" % (length, len(path)) + shown if excess is None else "84%08X%08X" % (length, excess)
+    return first + "\n" + "82" + "".join("%04X" % v for v in path) + "\n"
 
 
 def answer(data, display=False, told=None):
@@ -176,7 +185,7 @@ def answer(data, display=False, told=None):
                 h.append(signed(fields[1]))
                 k.append(signed(fields[2]))
             else:
-                if kind != "04" or (display and queries > 0):
+                if kind not in QUERY or (display and queries > 0):
                     raise FileRefusal(11, number)
                 printed.append(query_lines(size[0], arcs, h, k, *fields, told))
                 queries += 1

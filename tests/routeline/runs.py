@@ -17,15 +17,18 @@ from collections import namedtuple
 from pathlib import Path
 
 sys.path.insert(0, str(Path(__file__).resolve().parents[1] / "display"))
-from cases import D5, P1, P2, P3, P4, TO_QUERY, district5, query  # noqa: E402
+from cases import AT_CAP, D5, P1, P2, P3, P4, TO_QUERY, district5, query  # noqa: E402
 
-# The queries of P1 to P4, their answers, and a file with all of them.
-QUERIES = [query(0, 3, "01"), query(0, 3, "1"), query(2, 2, "0"), query(3, 0, "01")]
-ANSWERS = [P1, P2, P3, P4]
-FOUR = district5(*QUERIES)
+# The queries of P1 to P4 and between them those of P1 at two caps, their answers, and a file with all of them.
+QUERIES = [query(0, 3, "01"), query(0, 3, "1"), query(0, 3, "01", cap=2), query(2, 2, "0"), query(0, 3, "01", cap=1), query(3, 0, "01")]
+ANSWERS = [P1, P2, AT_CAP[2], P3, AT_CAP[1], P4]
+ALL = district5(*QUERIES)
+
+# A query that is written with as many bytes as the first, and has another answer.
+BACK = QUERIES[-1]
 
 # The longest line that waits for its end.
-LONGEST = "0" * 267
+LONGEST = "0" * 271
 
 # What is said of a read and of a write that failed, before the system's reason.
 UNREAD = "routeline: the file is cut short, standard input cannot be read: "
@@ -224,8 +227,9 @@ def _(routeline):
     with routeline.talk() as talk:
         talk.send(TO_QUERY)
         for asked, answer in zip(QUERIES, ANSWERS):
-            talk.send(asked[:10])
-            talk.send(asked[10:])
+            # the second piece begins and ends within the cap, where there is one
+            for piece in (asked[:11], asked[11:13], asked[13:]):
+                talk.send(piece)
             talk.hear(answer)
         talk.over()
 
@@ -242,17 +246,18 @@ def _(routeline):
 
 @run("a file refusal ends the program while its input is open")
 def _(routeline):
-    refused, told = "0100050005\n", "FF0B0000000D\n"
-    exactly(routeline.ran(D5 + refused + QUERIES[0]), P1, told)
-    with routeline.talk() as talk:
-        talk.send(D5)
-        talk.hear(P1)
-        talk.send(refused)
-        talk.hear(told)
-        talk.ends()
+    misplaced, unsound = "FF0B0000000D\n", "FF0A0000000D\n"
+    for refused, told in (("0100050005\n", misplaced), (AT_CAP[3], unsound), (AT_CAP[0], unsound)):
+        exactly(routeline.ran(D5 + refused + QUERIES[0]), P1, told)
+        with routeline.talk() as talk:
+            talk.send(D5)
+            talk.hear(P1)
+            talk.send(refused)
+            talk.hear(told)
+            talk.ends()
 
 
-@run("the 268th digit of a line is refused at once")
+@run("the 272nd digit of a line is refused at once")
 def _(routeline):
     told = "FF0A00000001\n"
     exactly(routeline.ran(LONGEST + "0"), told)
@@ -262,18 +267,19 @@ def _(routeline):
         talk.ends()
 
 
-@run("267 digits wait for the end of their line")
+@run("271 digits wait for the end of their line")
 def _(routeline):
     cut(routeline.ran(LONGEST, READS="all EIO"), "", UNREAD, errno.EIO)
     whole(routeline.ran(LONGEST + "\n"), "FF0A00000001\n")
+    whole(routeline.ran(district5(query(0, 3, "0" * 255, cap=5), QUERIES[0])), "FF0500000000\n" + P1)
 
 
 @run("of 1,000 queries 999 are answered before the last is whole")
 def _(routeline):
     with routeline.talk() as talk:
-        talk.send(TO_QUERY + QUERIES[0] * 999 + QUERIES[3][:5])
+        talk.send(TO_QUERY + QUERIES[0] * 999 + BACK[:5])
         talk.hear(P1 * 999)
-        talk.send(QUERIES[3][5:])
+        talk.send(BACK[5:])
         talk.hear(P4)
         talk.over()
 
@@ -284,33 +290,33 @@ def _(routeline):
     # of 1,000 that one read brings.
     for more in (1, 999):
         before = TO_QUERY + QUERIES[0] * more
-        ran = routeline.ran(before + QUERIES[0], SWAPS=f"{len(before)} {QUERIES[3]}")
+        ran = routeline.ran(before + QUERIES[0], SWAPS=f"{len(before)} {BACK}")
         exactly(ran, *[P1] * more, P4, then=[("read", 0, 0)])
 
 
 @run("undisturbed: one write an answer, and no other call")
 def _(routeline):
-    exactly(routeline.ran(FOUR), *ANSWERS, then=[("read", 0, 0)])
+    exactly(routeline.ran(ALL), *ANSWERS, then=[("read", 0, 0)])
 
 
 # ---- calls that are tried again
 @run("the same answers when each call moves one byte")
 def _(routeline):
-    ran = routeline.ran(FOUR, READS="1 again", WRITES="1 again")
+    ran = routeline.ran(ALL, READS="1 again", WRITES="1 again")
     whole(ran, "".join(ANSWERS))
     met(ran, 1)
 
 
 @run("an interrupted read and an interrupted write are tried again")
 def _(routeline):
-    ran = routeline.ran(FOUR, READS="EINTR EINTR 200 again", WRITES="EINTR EINTR 20 again")
+    ran = routeline.ran(ALL, READS="EINTR EINTR 200 again", WRITES="EINTR EINTR 20 again")
     whole(ran, "".join(ANSWERS))
     met(ran, -errno.EINTR)
 
 
 @run("a call that would have to wait is tried again, after a pause")
 def _(routeline):
-    ran = routeline.ran(FOUR, READS="EAGAIN EAGAIN 200 again", WRITES="EAGAIN 0 20 again")
+    ran = routeline.ran(ALL, READS="EAGAIN EAGAIN 200 again", WRITES="EAGAIN 0 20 again")
     whole(ran, "".join(ANSWERS))
     met(ran, -errno.EAGAIN)
     after = [then for call, then in zip(ran.calls, ran.calls[1:])
@@ -332,7 +338,7 @@ def _(routeline):
 def _(routeline):
     with routeline.talk(unblocked=0) as talk:
         talk.meets_a_wait("read")
-        talk.send(FOUR)
+        talk.send(ALL)
         talk.hear("".join(ANSWERS))
         talk.over()
 
@@ -341,22 +347,22 @@ def _(routeline):
 @run("a read that fails half way: the answers so far, and no end of input")
 def _(routeline):
     heard = len(district5(*QUERIES[:2]))
-    for more in (0, 1, len(QUERIES[2]) - 1):
-        cut(routeline.ran(FOUR, READS=f"{heard + more} EIO"), P1 + P2, UNREAD, errno.EIO)
-    cut(routeline.ran(FOUR, READS="EIO"), "", UNREAD, errno.EIO)
+    for more in (0, 1, 12, len(QUERIES[2]) - 1):
+        cut(routeline.ran(ALL, READS=f"{heard + more} EIO"), P1 + P2, UNREAD, errno.EIO)
+    cut(routeline.ran(ALL, READS="EIO"), "", UNREAD, errno.EIO)
 
 
 @run("a write that fails half way: the answers so far, and nothing after the gap")
 def _(routeline):
     for part in (1, len(P2) - 1):
-        cut(routeline.ran(FOUR, WRITES=f"all {part} ENOSPC"), P1 + P2[:part], UNWRITTEN, errno.ENOSPC)
-    cut(routeline.ran(FOUR, WRITES="all EIO"), P1, UNWRITTEN, errno.EIO)
+        cut(routeline.ran(ALL, WRITES=f"all {part} ENOSPC"), P1 + P2[:part], UNWRITTEN, errno.ENOSPC)
+    cut(routeline.ran(ALL, WRITES="all EIO"), P1, UNWRITTEN, errno.EIO)
 
 
 @run("a full device")
 def _(routeline):
     with open("/dev/full", "wb") as full:
-        cut(routeline.ran(FOUR, files={"stdout": full}), "", UNWRITTEN, errno.ENOSPC)
+        cut(routeline.ran(ALL, files={"stdout": full}), "", UNWRITTEN, errno.ENOSPC)
 
 
 @run("a closed pipe whose signal is ignored")
@@ -365,24 +371,24 @@ def _(routeline):
     os.close(reader)
     with open(writer, "wb") as pipe:
         # Python ignores the signal, and so does what it starts, unless it restores it.
-        cut(routeline.ran(FOUR, files={"stdout": pipe, "restore_signals": False}), "", UNWRITTEN, errno.EPIPE)
+        cut(routeline.ran(ALL, files={"stdout": pipe, "restore_signals": False}), "", UNWRITTEN, errno.EPIPE)
 
 
 @run("standard input is closed")
 def _(routeline):
-    cut(routeline.ran(FOUR, shell='exec "$@" <&-'), "", UNREAD, errno.EBADF)
+    cut(routeline.ran(ALL, shell='exec "$@" <&-'), "", UNREAD, errno.EBADF)
 
 
 @run("standard output is closed")
 def _(routeline):
-    cut(routeline.ran(FOUR, shell='exec "$@" >&-'), "", UNWRITTEN, errno.EBADF)
+    cut(routeline.ran(ALL, shell='exec "$@" >&-'), "", UNWRITTEN, errno.EBADF)
 
 
 @run("a directory as input")
 def _(routeline):
     folder = os.open("/", os.O_RDONLY)
     try:
-        cut(routeline.ran(FOUR, files={"stdin": folder}), "", UNREAD, errno.EISDIR)
+        cut(routeline.ran(ALL, files={"stdin": folder}), "", UNREAD, errno.EISDIR)
     finally:
         os.close(folder)
 
@@ -398,7 +404,7 @@ def gives_up(routeline, words):
 @run("an argument: what the program is, on standard error, and nothing else")
 def _(routeline):
     for words in (["--help"], ["--version"], ["examples/d5.txt"], [""], ["-", "-"]):
-        ran = routeline.ran(FOUR, words)
+        ran = routeline.ran(ALL, words)
         same("printed", ran.printed, "")
         same("said", ran.words, EXPLAINED)
         same("calls but for the words", [call for call in ran.calls if call.file != 2], [])

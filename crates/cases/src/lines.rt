@@ -2,6 +2,7 @@
 use crate::show;
 use frames::Frame;
 use network::Answer;
+use network::Cap;
 
 // The bytes of the longest answer in district D5: a route's line, and a path's with all five nodes.
 const ROOM: usize = 31 + 3 + 4 * 5;
@@ -27,6 +28,19 @@ fn arc(words: &[u8], tail: u16, head: u16, weight: u32) {
     show::text(b"\n");
 }
 
+// A query's line: its trip, its cap if it has one, and its pattern.
+fn query(bytes: &[u8], start: u16, end: u16, cap: Cap) {
+    match cap {
+        Cap::Uncapped => show::say(b"04 query: ", start as u64),
+        Cap::AtMost(turns) => {
+            show::say(b"07 query, cap ", turns as u64);
+            show::say(b": ", start as u64);
+        }
+    }
+    show::say(b" to ", end as u64);
+    pattern(bytes);
+}
+
 // The frame that a line spells, in words.
 fn line(bytes: &[u8]) {
     match frames::decode(bytes) {
@@ -46,12 +60,9 @@ fn line(bytes: &[u8]) {
         Frame::Query {
             start,
             end,
+            cap,
             entries: _,
-        } => {
-            show::say(b"04 query: ", start as u64);
-            show::say(b" to ", end as u64);
-            pattern(bytes);
-        }
+        } => query(bytes, start, end, cap),
         Frame::Unsound => show::text(b"no sound frame\n"),
     }
 }
@@ -72,12 +83,16 @@ fn district() {
     line(b"04000000030201");
 }
 
-// The kind that D5 has not, a closed link in both directions; the least potential and the greatest; the digit `a`; and an
-// answer's kind, which is no input.
+// The kinds that D5 has not, a closed link in both directions and its query with a cap, 2 and the greatest; the least
+// potential and the greatest; the digit `a`; and kinds of answers, which are no input.
 fn others() {
     line(b"0500000001000F4240");
+    line(b"070000000300020201");
+    line(b"0700000003FFFF0201");
     line(b"03000085FD42407A02BDC0");
     line(b"010005000a");
+    line(b"840000000400000003");
+    line(b"850001");
     line(b"FF0900000000");
 }
 

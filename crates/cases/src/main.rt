@@ -1,5 +1,6 @@
-// The cases (docs/RULES.md, "Cases"), run: P1 to P12, those that are run and not proved, and lines of district frames. What
-// the program writes is compared with the file `stdout`; what that says of P1 to P12 an independent program reckons too.
+// The cases (docs/RULES.md, "Cases"), run: P1 to P12, cases at caps, those that are run and not proved, and lines of district
+// frames. What the program writes is compared with the file `stdout`; what that says of P1 to P12 an independent program
+// reckons too.
 mod bounds;
 mod lines;
 mod searches;
@@ -7,6 +8,7 @@ mod show;
 
 fn main() {
     searches::p_cases();
+    searches::caps();
     searches::chain();
     bounds::all();
     lines::all();

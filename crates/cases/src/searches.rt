@@ -1,9 +1,10 @@
-// Searches: P1 to P12 (docs/RULES.md, "Cases"), each with its answer, its path, the tables that it leaves and its answer
-// lines; and the largest shortest length. The lent lists are longer than the node count, and hold what is no label, node or
+// Searches: P1 to P12 (docs/RULES.md, "Cases"), and P1 to P4 at caps, each with its answer, its path, the tables that it leaves
+// and its answer lines; and the largest shortest length. The lent lists are longer than the node count, and hold what is no label, node or
 // state of these cases, so that an entry that was written where it may not be is seen.
 use crate::lines;
 use crate::show;
 use network::Answer;
+use network::Cap;
 use network::MOST_NODES;
 use network::MOST_WEIGHT;
 ghost use Prim.Native.Nat.{_≤_};
@@ -46,12 +47,93 @@ fn written(a: Answer, count: u16) -> Counts {
             path: 0,
         },
         Answer::Refused(_) => Counts { tables: 0, path: 0 },
+        Answer::Provisional {
+            length: _,
+            excess: _,
+            nodes,
+            figures: _,
+        } => Counts {
+            tables: count as usize,
+            path: nodes as usize,
+        },
+        Answer::Undecided(_) => Counts {
+            tables: count as usize,
+            path: 0,
+        },
     }
 }
 
-// One case: what it answers and what it leaves.
+// The name of a case, with its cap if it has one.
+fn named(name: &[u8], cap: Cap) {
+    show::text(name);
+    match cap {
+        Cap::Uncapped => {}
+        Cap::AtMost(turns) => show::say(b", cap ", turns as u64),
+    }
+}
+
+// The query, with a turn cap or without.
+fn asked(
+    cap: Cap,
+    count: u16,
+    tails: &[u16],
+    heads: &[u16],
+    weights: &[u32],
+    forward: &[i32],
+    backward: &[i32],
+    start: u16,
+    end: u16,
+    pattern: &[u8],
+    start_labels: &mut [u32],
+    start_neighbours: &mut [u16],
+    end_labels: &mut [u32],
+    end_neighbours: &mut [u16],
+    states: &mut [u8],
+    path: &mut [u16],
+) -> Answer {
+    match cap {
+        Cap::Uncapped => search::query(
+            count,
+            tails,
+            heads,
+            weights,
+            forward,
+            backward,
+            start,
+            end,
+            pattern,
+            start_labels,
+            start_neighbours,
+            end_labels,
+            end_neighbours,
+            states,
+            path,
+        ),
+        Cap::AtMost(turns) => search::capped_query(
+            count,
+            tails,
+            heads,
+            weights,
+            forward,
+            backward,
+            start,
+            end,
+            pattern,
+            turns,
+            start_labels,
+            start_neighbours,
+            end_labels,
+            end_neighbours,
+            states,
+            path,
+        ),
+    }
+}
+
+// One case, with a turn cap or without: what it answers and what it leaves.
 fn case(
     name: &[u8],
+    cap: Cap,
     count: u16,
     tails: &[u16],
     heads: &[u16],
@@ -68,7 +150,8 @@ fn case(
     let mut end_neighbours = [OLD_NODE; LENT];
     let mut states = [OLD_STATE; LENT];
     let mut path = [OLD_NODE; LENT];
-    let a = search::query(
+    let a = asked(
+        cap,
         count,
         tails,
         heads,
@@ -86,7 +169,8 @@ fn case(
         &mut path,
     );
     let w = written(a, count);
-    show::answer(name, a);
+    named(name, cap);
+    show::answer(a);
     show::nodes(b"  path:", &path, w.path);
     show::labels(b"  start labels:", &start_labels, w.tables);
     show::nodes(b"  start neighbours:", &start_neighbours, w.tables);
@@ -97,9 +181,10 @@ fn case(
 }
 
 // A query in district D5.
-fn in_d5(name: &[u8], start: u16, end: u16, pattern: &[u8]) {
+fn in_d5(name: &[u8], cap: Cap, start: u16, end: u16, pattern: &[u8]) {
     case(
         name,
+        cap,
         5,
         &[0, 1, 2, 0, 4],
         &[1, 2, 3, 4, 3],
@@ -112,10 +197,28 @@ fn in_d5(name: &[u8], start: u16, end: u16, pattern: &[u8]) {
     );
 }
 
+// P1 to P4, which are in district D5.
+fn p1(cap: Cap) {
+    in_d5(b"P1", cap, 0, 3, &[0, 1]);
+}
+
+fn p2(cap: Cap) {
+    in_d5(b"P2", cap, 0, 3, &[1]);
+}
+
+fn p3(cap: Cap) {
+    in_d5(b"P3", cap, 2, 2, &[0, 1]);
+}
+
+fn p4(cap: Cap) {
+    in_d5(b"P4", cap, 3, 0, &[0, 1]);
+}
+
 // P5 to P10: two nodes, one arc from 0 to 1, a query from 0 to 1 and pattern 0.
 fn on_one_arc(name: &[u8], weight: u32, forward: [i32; 2], backward: [i32; 2]) {
     case(
         name,
+        Cap::Uncapped,
         2,
         &[0],
         &[1],
@@ -130,18 +233,60 @@ fn on_one_arc(name: &[u8], weight: u32, forward: [i32; 2], backward: [i32; 2]) {
 
 // P1 to P12.
 pub fn p_cases() {
-    in_d5(b"P1", 0, 3, &[0, 1]);
-    in_d5(b"P2", 0, 3, &[1]);
-    in_d5(b"P3", 2, 2, &[0, 1]);
-    in_d5(b"P4", 3, 0, &[0, 1]);
+    p1(Cap::Uncapped);
+    p2(Cap::Uncapped);
+    p3(Cap::Uncapped);
+    p4(Cap::Uncapped);
     on_one_arc(b"P5", 1, [1, 0], [0, 0]);
     on_one_arc(b"P6", 1, [2, 0], [0, 0]);
     on_one_arc(b"P7", 1000000, [0, 0], [0, 0]);
     on_one_arc(b"P8", 1000001, [0, 0], [0, 0]);
     on_one_arc(b"P9", 1, [-2047000000; 2], [-2047000000; 2]);
     on_one_arc(b"P10", 1, [-2047000001, 0], [0, 0]);
-    case(b"P11", 1, &[], &[], &[], &[0], &[0], 0, 0, &[0]);
-    case(b"P12", 2, &[0], &[1], &[1], &[0; 2], &[0; 2], 2, 1, &[]);
+    case(
+        b"P11",
+        Cap::Uncapped,
+        1,
+        &[],
+        &[],
+        &[],
+        &[0],
+        &[0],
+        0,
+        0,
+        &[0],
+    );
+    case(
+        b"P12",
+        Cap::Uncapped,
+        2,
+        &[0],
+        &[1],
+        &[1],
+        &[0; 2],
+        &[0; 2],
+        2,
+        1,
+        &[],
+    );
+}
+
+// P1 at each cap from 0 to one more than the turns that it takes.
+fn p1_at_caps() {
+    let mut cap: u16 = 0;
+    while cap < 7 {
+        p1(Cap::AtMost(cap));
+        cap += 1;
+    }
+}
+
+// Those, P2 at a cap where the excess is 0, P3 and P4 at cap 0, and P4 at a cap that its search ends within.
+pub fn caps() {
+    p1_at_caps();
+    p2(Cap::AtMost(4));
+    p3(Cap::AtMost(0));
+    p4(Cap::AtMost(0));
+    p4(Cap::AtMost(1));
 }
 
 // Nodes in rising order from the first, 0 or 1.
@@ -197,7 +342,8 @@ pub fn chain() {
         &mut states,
         &mut path,
     );
-    show::answer(b"chain of 2,048 nodes", a);
+    show::text(b"chain of 2,048 nodes");
+    show::answer(a);
     show::say(b"  path nodes in rising order: ", in_order(&path) as u64);
     show::text(b"\n");
 }

@@ -50,9 +50,8 @@ pub fn verdict(name: &[u8], v: Verdict) {
     }
 }
 
-// An answer with its figures, on one line.
-pub fn answer(name: &[u8], a: Answer) {
-    text(name);
+// An answer with its figures, after a name, to the end of the line.
+pub fn answer(a: Answer) {
     match a {
         Answer::Route {
             length,
@@ -68,6 +67,21 @@ pub fn answer(name: &[u8], a: Answer) {
             figures(f);
         }
         Answer::Refused(cause) => refusal(cause),
+        Answer::Provisional {
+            length,
+            excess,
+            nodes,
+            figures: f,
+        } => {
+            say(b": provisional, length ", length as u64);
+            say(b", excess ", excess as u64);
+            say(b", path nodes ", nodes as u64);
+            figures(f);
+        }
+        Answer::Undecided(f) => {
+            text(b": undecided");
+            figures(f);
+        }
     }
 }
 

@@ -60,7 +60,7 @@ answer-fits (Refused c) h = one 2 255 (omega arith) (one 2 (numberOf c) (number-
 answer-fits (Provisional l x n f) h = one 2 132 (omega arith) (one 8 l (omega arith) (one 8 x (omega arith) none))
 answer-fits (Undecided f) h = one 2 133 (omega arith) (one 4 (f .turns) (omega arith) none)
 
--- what follows an answer's line: the line of the path that it shows, or nothing
+-- the path that an answer shows
 abbrev pub pathShown : Answer → List ℕ → List ℕ
 pathShown (Route l n f) p = take n p
 pathShown (NoRoute f) p = []
@@ -68,6 +68,7 @@ pathShown (Refused c) p = []
 pathShown (Provisional l x n f) p = take n p
 pathShown (Undecided f) p = []
 
+-- what follows an answer's line: that path's line, or nothing
 abbrev afterLine : Answer → List ℕ → List ℕ
 afterLine (Route l n f) p = pathLine (take n p)
 afterLine (NoRoute f) p = []
@@ -127,8 +128,8 @@ cause-again (Inconsistent a) = refl
 cause-again (UnsoundLine n) = refl
 cause-again (MisplacedLine n) = refl
 
--- what an answer's lines show of it: all, but a provisional's and an undecided's have no figures beyond the turns, and a
--- provisional's nodes are those of its path
+-- what an answer's lines show of it beside the path: a route, no route and a refusal whole, a provisional route without its
+-- node count and figures, of an undecided query the turns
 abbrev pub shown : Answer → Answer
 shown (Route l n f) = Route l n f
 shown (NoRoute f) = NoRoute f
@@ -137,31 +138,24 @@ shown (Provisional l x n f) = Provisional l x 0 (figuresFrom [])
 shown (Undecided f) = Undecided (figuresFrom (f .turns ∷ []))
 
 -- it is found again from the kind and the values
-answerFrom : ℕ → List ℕ → Answer
-answerFrom k vs =
+answerOfKind : ℕ → List ℕ → Answer
+answerOfKind k vs =
     cond (eqb k 129) (Route (getD vs 0 0) (getD vs 1 0) (figuresFrom (drop 2 vs)))
     (cond (eqb k 128) (NoRoute (figuresFrom vs))
     (cond (eqb k 132) (Provisional (getD vs 0 0) (getD vs 1 0) 0 (figuresFrom []))
     (cond (eqb k 133) (Undecided (figuresFrom vs)) (Refused (causeAt (getD vs 0 0) (getD vs 1 0))))))
 
-answer-again : (a : Answer) → answerFrom (kindOf a) (valuesOf a) ≡ shown a
-unfolding answerFrom
+answer-again : (a : Answer) → answerOfKind (kindOf a) (valuesOf a) ≡ shown a
+unfolding answerOfKind
 answer-again (Route l n f) = refl
 answer-again (NoRoute f) = refl
 answer-again (Refused c) = ap Refused (cause-again c)
 answer-again (Provisional l x n f) = refl
 answer-again (Undecided f) = refl
 
--- and the widths of its fields from the kind
-widthsFrom : ℕ → List ℕ
-widthsFrom k =
-    cond (eqb k 129) (2 ∷ 8 ∷ 4 ∷ 4 ∷ 4 ∷ 4 ∷ 4 ∷ [])
-    (cond (eqb k 128) (2 ∷ 4 ∷ 4 ∷ 4 ∷ 4 ∷ [])
-    (cond (eqb k 132) (2 ∷ 8 ∷ 8 ∷ [])
-    (cond (eqb k 133) (2 ∷ 4 ∷ []) (2 ∷ 2 ∷ 8 ∷ []))))
-
-widths-again : (a : Answer) → widthsFrom (kindOf a) ≡ widthsOf a
-unfolding widthsFrom
+-- and the widths of its fields from the kind alone
+widths-again : (a : Answer) → widthsOf (answerOfKind (kindOf a) []) ≡ widthsOf a
+unfolding answerOfKind
 widths-again (Route l n f) = refl
 widths-again (NoRoute f) = refl
 widths-again (Refused c) = refl
@@ -174,7 +168,7 @@ module _ (a b : Answer) (p q : List ℕ) (h : Ranged a) (k : Ranged b) (e : answ
   same-kind = sym (kind-first a _ (answer-fields a p h)) ∙ (ap (λ (s : List ℕ). numberAt s 0 2) e ∙ kind-first b _ (answer-fields b q k))
 
   same-widths : widthsOf a ≡ widthsOf b
-  same-widths = sym (widths-again a) ∙ (ap widthsFrom same-kind ∙ widths-again b)
+  same-widths = sym (widths-again a) ∙ (ap (λ (kind : ℕ). widthsOf (answerOfKind kind [])) same-kind ∙ widths-again b)
 
   -- show the same, so they are the same answer where it is shown whole
   pub answer-determined : shown a ≡ shown b
@@ -184,8 +178,7 @@ module _ (a b : Answer) (p q : List ℕ) (h : Ranged a) (k : Ranged b) (e : answ
       let values : valuesOf a ≡ valuesOf b = cc in
       sym (answer-again a) ∙ (rw (same-kind, values) (answer-again b))
 
--- the bytes of an answer's lines: 13 for a refusal, 19 for no route, 7 for an undecided query, 34 and four a node for a route,
--- 22 and four a node for a provisional one
+-- an answer's line has the digits of its fields and a line feed
 length-first : (a : Answer) → length (answerLine a) ≡ total (widthsOf a) + 1
 length-first (Route l n f) = length-line _ _ refl
 length-first (NoRoute f) = length-line _ _ refl
@@ -193,6 +186,8 @@ length-first (Refused c) = length-line _ _ refl
 length-first (Provisional l x n f) = length-line _ _ refl
 length-first (Undecided f) = length-line _ _ refl
 
+-- the bytes of an answer's lines: 13 for a refusal, 19 for no route, 7 for an undecided query, 34 and four a node for a route,
+-- 22 and four a node for a provisional one
 pub length-refused : (c : Cause) (p : List ℕ) → length (answerLines (Refused c) p) ≡ 13
 length-refused c p = length-first (Refused c)
 
@@ -215,7 +210,7 @@ nodes-fit : (ns : List ℕ) → Below 65536 ns → InFields (replicate (length n
 nodes-fit [] h = none
 nodes-fit (v ∷ ns) h = one 4 v (h .law 0 (omega arith)) (nodes-fit ns (record { law = λ i k. h .law (suc i) (omega arith) }))
 
--- the path in what follows an answer's line: its nodes stand after the two digits of the kind, if there are any
+-- the path in what follows an answer's line: if anything does, its nodes stand after the two digits of the kind
 pathIn : List ℕ → List ℕ
 pathIn s = fieldsAt 2 (replicate (length s / 4) 4) s
 

@@ -3,6 +3,7 @@
 use mathlib.Core.Path.{_≡_, refl}
 use mathlib.Core.List.{List, [], _∷_, _++_, map}
 use Prim.Native.Nat.{ℕ}
+use lib.ListN.{replicate}
 use Prim.Native.Char.{code}
 use Prim.Native.String.{String, [] as none, _∷_ as _then_}
 use lib.IntN.{pos, negℤ}
@@ -26,15 +27,22 @@ bytes (c then s) = code c ∷ bytes s
 -- ---- lines that are read
 -- a line without its line feed, the frame that it spells, and the entries of its pattern
 pub record Line : Type 0 where
-  pub text : String
+  pub text : List ℕ
   pub frame : Frame
   pub entries : List ℕ
 
+abbrev line : List ℕ → Frame → List ℕ → Line
+line t f p = record { text = t; frame = f; entries = p }
+
 abbrev spells : String → Frame → List ℕ → Line
-spells t f p = record { text = t; frame = f; entries = p }
+spells t f p = line (bytes t) f p
 
 abbrev is-none : String → Line
 is-none t = spells t Unsound []
+
+-- digits, and then so many times the digit 1
+abbrev ones : String → ℕ → List ℕ
+ones t n = bytes t ++ replicate n 49
 
 abbrev sound-lines : List Line
 sound-lines =
@@ -51,6 +59,16 @@ sound-lines =
     ∷ spells "04000000030201" (Query 0 3 Uncapped 2) (0 ∷ 1 ∷ [])
     ∷ spells "040000000300" (Query 0 3 Uncapped 0) []
     ∷ spells "0400000003020F" (Query 0 3 Uncapped 2) (0 ∷ 15 ∷ [])
+    -- 07: the query of D5 at cap 2: who has no such kind, or reads it as 04
+    ∷ spells "070000000300020201" (Query 0 3 (AtMost 2) 2) (0 ∷ 1 ∷ [])
+    -- fields that all differ: who reads the cap after the pattern's length, or takes the entries from where a 04 has them
+    ∷ spells "0701230456789A031F0" (Query 291 1110 (AtMost 30874) 3) (1 ∷ 15 ∷ 0 ∷ [])
+    -- the lowest cap and the highest, and no entries: who takes cap 0 for no cap, or refuses what is more than a search needs
+    ∷ spells "0700000003000000" (Query 0 3 (AtMost 0) 0) []
+    ∷ spells "0700000003FFFF00" (Query 0 3 (AtMost 65535) 0) []
+    -- the longest 04, 267 digits, and the longest line of all, 271: who keeps no room for them, or for 64 entries only
+    ∷ line (ones "0400000003FF" 255) (Query 0 3 Uncapped 255) (replicate 255 1)
+    ∷ line (ones "07000000030002FF" 255) (Query 0 3 (AtMost 2) 255) (replicate 255 1)
     ∷ []
 
 abbrev unsound-lines : List Line
@@ -63,10 +81,18 @@ unsound-lines =
     ∷ is-none "800001000100000000"
     ∷ is-none "8000050005"
     ∷ is-none "FF0900000000"
-    -- the kinds before 01 and after 05, as long as a size and as an arc
+    -- the answers to a 07, and lines of their kinds that are as long as a query or a link
+    ∷ is-none "840000000400000003"
+    ∷ is-none "84000000030201"
+    ∷ is-none "850001"
+    ∷ is-none "850000000100000001"
+    -- the kinds before 01, between 05 and 07 and after 07, as long as a size, an arc and a query
     ∷ is-none "0000050005"
     ∷ is-none "0600050005"
     ∷ is-none "060000000100000001"
+    ∷ is-none "06000000030201"
+    ∷ is-none "0600000003000201"
+    ∷ is-none "080000000300020201"
     -- the digit `a`, and the bytes before and after the digits: who takes them for digits reads a size
     ∷ is-none "010005000a"
     ∷ is-none "010005000/"
@@ -89,13 +115,23 @@ unsound-lines =
     ∷ is-none "040000000302010"
     ∷ is-none "05000000010000001"
     ∷ is-none "0500000001000000010"
+    ∷ is-none "07000000030002020"
+    ∷ is-none "0700000003000202010"
+    -- a 07 with a digit of its pattern's length and with none, a 07 without its cap, a 04 with one: who takes the one for the other
+    ∷ is-none "070000000300020"
+    ∷ is-none "07000000030002"
+    ∷ is-none "07000000030201"
+    ∷ is-none "040000000300020201"
+    -- an entry more than the pattern's length can say
+    ∷ line (ones "0400000003FF" 256) Unsound []
+    ∷ line (ones "07000000030002FF" 256) Unsound []
     ∷ []
 
 abbrev line-cases : List Line
 line-cases = sound-lines ++ unsound-lines
 
 unfoldable pub read : Line → Line
-read c = record { text = c .text; frame = frameOf (bytes (c .text)); entries = patternOf (bytes (c .text)) }
+read c = record { text = c .text; frame = frameOf (c .text); entries = patternOf (c .text) }
 
 -- ---- answers that are written
 -- an answer with the path list, and the bytes of its lines
@@ -127,6 +163,13 @@ answer-cases =
     ∷ says (Route 2047000000 2 (figures 2048 1029 770 249)) (2047 ∷ 10 ∷ []) ("817A02BDC0000208000405030200F9" ∷ "8207FF000A" ∷ [])
     -- 80: who writes a path line too, or the figures in another order
     ∷ says (NoRoute (figures 2048 1029 770 249)) (0 ∷ []) ("8008000405030200F9" ∷ [])
+    -- 84 and 82, D5 at cap 2: who writes a route's figures, or no path
+    ∷ says (Provisional 4 3 3 (figures 2 1 1 0)) (0 ∷ 4 ∷ 3 ∷ 77 ∷ []) ("840000000400000003" ∷ "82000000040003" ∷ [])
+    -- who writes the excess first, or cuts it to four digits
+    ∷ says (Provisional 2047000000 19088743 2 (figures 2048 1029 770 249)) (2047 ∷ 10 ∷ []) ("847A02BDC001234567" ∷ "8207FF000A" ∷ [])
+    -- 85, D5 at cap 1, and with figures that all differ: who writes more than the turns, or a path line too
+    ∷ says (Undecided (figures 1 1 0 0)) (0 ∷ []) ("850001" ∷ [])
+    ∷ says (Undecided (figures 2048 1029 770 249)) (0 ∷ []) ("850800" ∷ [])
     -- FF: each number, with place 0 or with the arc, node or line: who gives another number or place, or another order
     ∷ refusal (Refused NodeCount) "FF0100000000"
     ∷ refusal (Refused ArcLists) "FF0200000000"

@@ -18,7 +18,7 @@ use Rattle.frames.specs.Signed.{signedOf, bitsOf}
 use Rattle.frames.specs.SignedLaws.{signed-of-bits, bits-of-signed}
 use Rattle.frames.specs.FieldSteps.{first-is, others-are}
 use Rattle.frames.specs.FieldLaws.{digits-++, digits-drop, digit-is-digit, byte-of-value, number-below, fieldsAt, total, InFields, none, one, length-spelled, spelled-digits, fields-roundtrip, fields-rewritten}
-use Rattle.frames.specs.Frame.{sizeOf, arcFrame, arcOf, potentialsOf, queryOf, cappedOf, ofKind, frameOf, digitsBefore, entriesFrom, entriesOf, patternOf}
+use Rattle.frames.specs.Frame.{sizeOf, arcFrame, arcOf, potentialsOf, queryOf, cappedOf, ofKind, frameOf, entriesFrom, entriesOf, patternOf}
 use Rattle.frames.specs.FrameCases.{frame-cases, by-kind}
 use Rattle.frames.specs.FrameLine.{frameLine, Below, Spellable}
 use Rattle.frames.specs.declared.Frame.{Frame}

@@ -246,7 +246,7 @@ fn query_frame(table: &[u8; 256], line: &[u8]) -> Frame
     }
 }
 
-// A line of kind 07: as 04, with a cap before the pattern's length.
+// A line of kind 07 (docs/RULES.md, "Capped queries"): as 04, with a cap before the pattern's length.
 fn capped_frame(table: &[u8; 256], line: &[u8]) -> Frame
     requires { ⌜ Readable (now table) (now line) ⌝ }
     ensures { λ r. ⌜ r ≡ cappedOf (now (line .entry)) ⌝ }
@@ -316,8 +316,8 @@ fn write_entries(table: &[u8; 256], line: &[u8], at: usize, entries: &mut [u8])
 }
 
 // The pattern of a query line, handed to the front of a lent list, and how many entries it has. They are the line's last digits,
-// with a cap before them and without. Where the line is no sound query, or the list is too short, the answer is 0 and the list
-// stays as it was.
+// whether it has a cap or not. Where the line is no sound query, or the list is too short, the answer is 0 and the list stays as
+// it was.
 pub fn pattern(line: &[u8], entries: &mut [u8]) -> usize
     ensures { λ r. ⌜ Placed (patternOf (now (line .entry))) (now (entries .entry)) (now (entries .exit)) r ⌝ }
 {

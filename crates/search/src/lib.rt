@@ -69,7 +69,8 @@ fn searched(
     let meeting = p.meeting;
     let figures = tables::count_states(states);
     if turn::MISSING <= length {
-        return cap::without_length(over, figures);
+        let answer = cap::without_length(over, figures);
+        return answer;
     }
     let nodes = tables::write_path(path, start_neighbours, end_neighbours, start, end, meeting);
     let excess = cap::excess(

@@ -1,9 +1,10 @@
 //! The cases P1 to P12 (docs/RULES.md, "Cases") as files, and what the program `cases`
-//! should print of them: the answer in words, the path, the five work lists, and the answer lines.
+//! should print of them, and of some of them at caps: the answer in words, the path, the five work lists, and the answer
+//! lines.
 
 use crate::check;
 use crate::frames::{self, Reader};
-use crate::model::{self, Answer, Fault, Figures};
+use crate::model::{self, Answer, Fault, Figures, Outcome, Search};
 
 /// District D5 without a query, as docs/RULES.md, "District D5", prints it.
 pub const D5: &str = "0100050005
@@ -57,26 +58,36 @@ const OLD: i64 = 77;
 /// The work lists, in the order of the columns of `check::rows`.
 const LISTS: [&str; 5] = ["start labels", "start neighbours", "end labels", "end neighbours", "states"];
 
-/// The text of P1 to P12, in this order.
+/// Those of P1 to P12 that are asked at a cap too, by their place in the list, and the caps.
+const AT_CAPS: [(usize, u16); 11] =
+    [(0, 0), (0, 1), (0, 2), (0, 3), (0, 4), (0, 5), (0, 6), (1, 4), (2, 0), (3, 0), (3, 1)];
+
+/// The text of P1 to P12, in this order, and then of those at caps.
 pub fn text(fault: Option<Fault>) -> String {
-    files().iter().map(|(name, file)| case(name, file, fault)).collect()
+    let files = files();
+    let plain = files.iter().map(|(name, file)| case(name, file, None, fault));
+    let capped = AT_CAPS.iter().map(|&(at, cap)| {
+        let (name, file) = &files[at];
+        case(&format!("{name}, cap {cap}"), file, Some(cap), fault)
+    });
+    plain.chain(capped).collect()
 }
 
-fn case(name: &str, file: &str, fault: Option<Fault>) -> String {
+fn case(name: &str, file: &str, cap: Option<u16>, fault: Option<Fault>) -> String {
     let read = frames::answer_file(file.as_bytes(), Reader::Program, fault);
-    let (query, answer) = &read.asked[0];
-    let path: Vec<i64> = match answer {
-        Answer::Route { path, .. } => path.iter().map(|&node| node as i64).collect(),
+    let (query, _) = &read.asked[0];
+    let outcome = model::answer(&read.network, &query.at(cap), fault);
+    let path: Vec<i64> = match &outcome.answer {
+        Answer::Route { path, .. } | Answer::Provisional { path, .. } => path.iter().map(|&node| node as i64).collect(),
         _ => Vec::new(),
     };
-    let tables = model::answer(&read.network, query, fault).tables;
-    let rows = tables.map_or(Vec::new(), |tables| check::rows(&tables));
-    let mut text = format!("{name}: {}\n{}", words(answer), list("path", &path));
+    let rows = outcome.tables.as_ref().map_or(Vec::new(), check::rows);
+    let mut text = format!("{name}: {}\n{}", words(&outcome), list("path", &path));
     for (at, title) in LISTS.iter().enumerate() {
         let entries: Vec<i64> = rows.iter().map(|row| row[at]).collect();
         text += &list(title, &entries);
     }
-    text + &frames::answer_lines(answer)
+    text + &frames::answer_lines(&outcome.answer)
 }
 
 /// The entries that a query leaves, and after a bar the old ones beyond them.
@@ -89,14 +100,19 @@ fn list(title: &str, written: &[i64]) -> String {
     text + "\n"
 }
 
-fn words(answer: &Answer) -> String {
-    match answer {
-        Answer::Route { length, path, figures } => {
-            format!("route, length {length}, path nodes {}, {}", path.len(), figures_words(figures))
+/// The answer, and the figures of its search, whether its lines have them or not.
+fn words(outcome: &Outcome) -> String {
+    let said = match &outcome.answer {
+        Answer::Refused(refusal) => return format!("refused, {}", frames::refusal_line(*refusal).trim_end()),
+        Answer::Route { length, path, .. } => format!("route, length {length}, path nodes {}", path.len()),
+        Answer::NoRoute { .. } => "no route".into(),
+        Answer::Provisional { length, excess, path } => {
+            format!("provisional, length {length}, excess {excess}, path nodes {}", path.len())
         }
-        Answer::NoRoute { figures } => format!("no route, {}", figures_words(figures)),
-        Answer::Refused(refusal) => format!("refused, {}", frames::refusal_line(*refusal).trim_end()),
-    }
+        Answer::Undecided { .. } => "undecided".into(),
+    };
+    let figures = outcome.tables.as_ref().map(Search::figures).unwrap_or_default();
+    format!("{said}, {}", figures_words(&figures))
 }
 
 fn figures_words(figures: &Figures) -> String {

@@ -43,6 +43,9 @@ struct Counts {
     routes: u64,
     no_routes: u64,
     start_is_end: u64,
+    capped: u64,
+    provisional: u64,
+    undecided: u64,
     refusals: [u64; 12],
     compared_with_program: u64,
     in_pieces: u64,
@@ -145,13 +148,28 @@ fn one_seed(plan: &Plan, seed: u64, entry: Option<&mut Entry>, counts: &Mutex<Co
     Ok(())
 }
 
-/// Every accepted query, against the demands.
+/// Every accepted query, against the demands; and those that differ in their caps alone, against each other.
 pub fn own_tests(seed: u64, expected: &FileAnswer, fault: Option<Fault>) -> Result<(), String> {
     let others = make::other_patterns(seed, if expected.network.nodes.len() <= 64 { 3 } else { 1 });
     for (number, (query, answer)) in expected.asked.iter().enumerate() {
         if !matches!(answer, Answer::Refused(_)) {
             laws::test_query(&expected.network, query, &others, fault)
                 .map_err(|what| format!("the independent answer to query {} breaks a demand: {what}", number + 1))?;
+        }
+    }
+    along_caps(&expected.asked)
+}
+
+/// The answers to the same query, by rising caps and last without one: none takes back what the one before it said.
+fn along_caps(asked: &[(Query, Answer)]) -> Result<(), String> {
+    let cap = |query: &Query| query.cap.map_or(u32::MAX, u32::from);
+    let trip = |query: &Query| (query.start, query.end, query.pattern.clone());
+    let mut asked: Vec<&(Query, Answer)> = asked.iter().collect();
+    asked.sort_by_cached_key(|(query, _)| (trip(query), cap(query)));
+    for pair in asked.windows(2) {
+        let ((query, smaller), (other, larger)) = (pair[0], pair[1]);
+        if trip(query) == trip(other) {
+            laws::takes_nothing_back(smaller, larger)?;
         }
     }
     Ok(())
@@ -223,20 +241,24 @@ fn count_file(counts: &mut Counts, expected: &FileAnswer) {
 
 fn count_query(counts: &mut Counts, query: &Query, answer: &Answer) {
     counts.queries += 1;
+    counts.capped += u64::from(query.cap.is_some());
     match answer {
         Answer::Route { .. } => {
             counts.routes += 1;
             counts.start_is_end += u64::from(query.start == query.end);
         }
         Answer::NoRoute { .. } => counts.no_routes += 1,
+        Answer::Provisional { .. } => counts.provisional += 1,
+        Answer::Undecided { .. } => counts.undecided += 1,
         Answer::Refused(refusal) => counts.refusals[refusal.number as usize] += 1,
     }
 }
 
 fn report(plan: &Plan, counts: &Counts, found: Option<&Difference>, began: Instant) -> bool {
-    let Counts { files, queries, routes, no_routes, start_is_end, .. } = counts;
+    let Counts { files, queries, routes, no_routes, start_is_end, capped, provisional, undecided, .. } = counts;
     println!("seeds {}..{}, {:.1} s", plan.seeds.start, plan.seeds.end, began.elapsed().as_secs_f64());
     println!("{files} files, {queries} queries: {routes} routes ({start_is_end} with start equal to end), {no_routes} no routes");
+    println!("{capped} of the queries with a cap: {provisional} provisional, {undecided} undecided");
     let by_number = (1..=11).filter(|&number| counts.refusals[number] > 0);
     let refusals: Vec<String> = by_number.map(|number| format!("{number}: {}", counts.refusals[number])).collect();
     println!("refusals by number: {}", refusals.join(", "));
@@ -295,10 +317,11 @@ pub fn describe(network: &Network) -> String {
     text
 }
 
-/// The work lists at the end of a query (docs/RULES.md, "The end of a search"), a line a
+/// The work lists at the end of a query (docs/RULES.md, "The end of a search"), or where its cap stopped it, a line a
 /// node: the node and its row.
 pub fn tables(network: &Network, query: &Query) -> String {
-    let mut text = format!("query from {} to {}\n", query.start, query.end);
+    let cap = query.cap.map_or(String::new(), |cap| format!(" in at most {cap} turns"));
+    let mut text = format!("query from {} to {}{cap}\n", query.start, query.end);
     let outcome = model::answer(network, query, None);
     let Some(tables) = outcome.tables else {
         return text + "refused: the lists are untouched\n";

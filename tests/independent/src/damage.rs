@@ -6,6 +6,9 @@ use crate::random::Random;
 
 pub type Lines = Vec<Vec<u8>>;
 
+/// The kinds of a query.
+const QUERY: [&[u8]; 2] = [b"04", b"07"];
+
 /// The lines whose kind is one of these two digits.
 fn lines_of_kind(lines: &Lines, kinds: &[&[u8]]) -> Vec<usize> {
     (0..lines.len()).filter(|&at| kinds.iter().any(|kind| lines[at].starts_with(kind))).collect()
@@ -22,7 +25,7 @@ fn one_of_kind(random: &mut Random, lines: &Lines, kinds: &[&[u8]]) -> Option<us
 
 /// A line of the file, the queries' part as likely as all the rest.
 fn any_line(random: &mut Random, lines: &Lines) -> usize {
-    let queries = lines_of_kind(lines, &[b"04"]);
+    let queries = lines_of_kind(lines, &QUERY);
     if !queries.is_empty() && random.chance(40) {
         random.pick(&queries)
     } else {
@@ -36,7 +39,7 @@ pub fn damage_lines(random: &mut Random, lines: &mut Lines) -> &'static str {
         return "empty";
     }
     let at = any_line(random, lines);
-    match random.below(24) {
+    match random.below(27) {
         0 => {
             let other = any_line(random, lines);
             lines.swap(at, other);
@@ -94,7 +97,7 @@ pub fn damage_lines(random: &mut Random, lines: &mut Lines) -> &'static str {
             "03 missing"
         }
         17 => {
-            if let Some(place) = one_of_kind(random, lines, &[b"04"]) {
+            if let Some(place) = one_of_kind(random, lines, &QUERY) {
                 let query = lines.remove(place);
                 let to = random.below(lines.len() + 1);
                 lines.insert(to, query);
@@ -107,7 +110,7 @@ pub fn damage_lines(random: &mut Random, lines: &mut Lines) -> &'static str {
             "second 01"
         }
         19 => {
-            lines.retain(|line| !line.starts_with(b"04"));
+            lines.retain(|line| !QUERY.iter().any(|kind| line.starts_with(kind)));
             "no query"
         }
         20 => {
@@ -117,9 +120,12 @@ pub fn damage_lines(random: &mut Random, lines: &mut Lines) -> &'static str {
                 b"0100010000\n",
                 b"050000000000000000\n",
                 b"FF0900000000\n",
+                b"840000000300000001\n",
+                b"850002\n",
                 b"hello\n",
                 b"\n",
                 b"0400000000010",
+                b"07000000000000010",
             ]);
             lines.push(extra.to_vec());
             "a line after the queries"
@@ -136,6 +142,13 @@ pub fn damage_lines(random: &mut Random, lines: &mut Lines) -> &'static str {
             lines.truncate(keep);
             "cut between lines"
         }
+        23 => {
+            if let Some(at) = one_of_kind(random, lines, &QUERY) {
+                lines[at][1] ^= b'4' ^ b'7';
+            }
+            "a query of the other kind"
+        }
+        24 | 25 => long_query(random, lines),
         _ => damage_pattern_length(random, lines),
     }
 }
@@ -161,7 +174,8 @@ fn damage_kind(random: &mut Random, line: &mut [u8]) -> &'static str {
         return "nothing";
     }
     let kind = random.pick(&[
-        b"00", b"01", b"02", b"03", b"04", b"05", b"06", b"07", b"80", b"81", b"82", b"83", b"FF", b"10", b"20", b"0a",
+        b"00", b"01", b"02", b"03", b"04", b"05", b"06", b"07", b"08", b"80", b"81", b"82", b"83", b"84", b"85", b"FF",
+        b"10", b"20", b"0a",
     ]);
     line[..2].copy_from_slice(kind);
     "the kind changed"
@@ -172,8 +186,8 @@ fn damage_length(random: &mut Random, line: &mut Vec<u8>) -> &'static str {
     let feed = line.pop();
     let digit = random.pick(b"01F");
     match random.below(7) {
-        0 => line.resize(268, digit),
-        1 => line.resize(267, digit),
+        0 => line.resize(random.pick(&[268, 272]), digit),
+        1 => line.resize(random.pick(&[267, 271]), digit),
         2 => line.resize(70_000, digit),
         3 => line.push(digit),
         4 => line.insert(0, digit),
@@ -207,15 +221,26 @@ fn damage_size(random: &mut Random, line: &mut Vec<u8>) -> &'static str {
     "another 01"
 }
 
-/// The pattern length of a 04 no longer says how many entries follow.
+/// The pattern length of a query no longer says how many entries follow.
 fn damage_pattern_length(random: &mut Random, lines: &mut Lines) -> &'static str {
-    if let Some(at) = one_of_kind(random, lines, &[b"04"]) {
-        if lines[at].len() > 12 {
-            let length = format!("{:02X}", random.below(256));
-            lines[at][10..12].copy_from_slice(length.as_bytes());
+    if let Some(at) = one_of_kind(random, lines, &QUERY) {
+        let length = format!("{:02X}", random.below(256));
+        let place = if lines[at].starts_with(b"07") { 14 } else { 10 };
+        if let Some(digits) = lines[at].get_mut(place..place + 2) {
+            digits.copy_from_slice(length.as_bytes());
         }
     }
     "another pattern length"
+}
+
+/// A query of 255 entries, as long as its kind can be, or of one more than its pattern length says.
+fn long_query(random: &mut Random, lines: &mut Lines) -> &'static str {
+    let kind = random.pick(&["0400000001", "07000000010002"]);
+    let entries = "01".repeat(128);
+    let (count, says) = random.pick(&[(255, "a query of 255 entries"), (256, "a query of 256 entries")]);
+    let at = if random.chance(70) { lines.len() } else { random.below(lines.len() + 1) };
+    lines.insert(at, format!("{kind}FF{}\n", &entries[..count]).into_bytes());
+    says
 }
 
 /// Damages the file as bytes; says how.
@@ -242,7 +267,7 @@ pub fn damage_bytes(random: &mut Random, bytes: &mut Vec<u8>) -> &'static str {
         }
         6 => {
             // A last line of digits only, without end and without line feed.
-            bytes.extend(vec![b'0'; random.pick(&[1, 267, 268, 70_000])]);
+            bytes.extend(vec![b'0'; random.pick(&[1, 267, 268, 271, 272, 70_000])]);
             "a long last line"
         }
         _ => {

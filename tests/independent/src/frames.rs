@@ -3,8 +3,8 @@
 
 use crate::model::{self, Answer, Arc, Fault, Figures, Network, Node, Query, Refusal};
 
-/// The longest input frame is a 04 with 255 entries: 2 + 4 + 4 + 2 + 255 digits.
-pub const MOST_DIGITS: usize = 267;
+/// The longest input frame is a 07 with 255 entries: 2 + 4 + 4 + 4 + 2 + 255 digits.
+pub const MOST_DIGITS: usize = 271;
 
 /// This line is 11 whatever it holds.
 pub const LAST_LINE: u32 = 4_294_967_295;
@@ -50,14 +50,15 @@ impl Fields<'_> {
         Some(Frame::Potentials { node, values })
     }
 
-    fn query(&mut self) -> Option<Frame> {
+    fn query(&mut self, capped: bool) -> Option<Frame> {
         let (start, end) = (self.take(4)?, self.take(4)?);
+        let cap = if capped { Some(self.take(4)? as u16) } else { None };
         let entries = self.take(2)?;
         let mut pattern = Vec::new();
         for _ in 0..entries {
             pattern.push(self.take(1)? as u8);
         }
-        Some(Frame::Query(Query { start, end, pattern }))
+        Some(Frame::Query(Query { start, end, pattern, cap }))
     }
 }
 
@@ -77,7 +78,8 @@ pub fn read_frame(line: &[u8]) -> Option<Frame> {
         0x02 => Frame::OneWay(fields.arc()?),
         0x05 => Frame::TwoWay(fields.arc()?),
         0x03 => fields.potentials()?,
-        0x04 => fields.query()?,
+        0x04 => fields.query(false)?,
+        0x07 => fields.query(true)?,
         _ => return None,
     };
     fields.rest.is_empty().then_some(frame)
@@ -94,7 +96,8 @@ pub fn frame_line(frame: &Frame) -> String {
         Frame::Potentials { node, values } => format!("03{node:04X}{:08X}{:08X}\n", values.h, values.k),
         Frame::Query(query) => {
             let entries: String = query.pattern.iter().map(|entry| format!("{entry:X}")).collect();
-            format!("04{:04X}{:04X}{:02X}{entries}\n", query.start, query.end, query.pattern.len())
+            let (kind, cap) = query.cap.map_or(("04", String::new()), |cap| ("07", format!("{cap:04X}")));
+            format!("{kind}{:04X}{:04X}{cap}{:02X}{entries}\n", query.start, query.end, query.pattern.len())
         }
     }
 }
@@ -108,14 +111,20 @@ fn figures_digits(figures: &Figures) -> String {
     format!("{turns:04X}{opened_by_start:04X}{opened_by_end:04X}{rejected:04X}")
 }
 
+fn path_line(path: &[usize]) -> String {
+    let nodes: String = path.iter().map(|node| format!("{node:04X}")).collect();
+    format!("82{nodes}\n")
+}
+
 pub fn answer_lines(answer: &Answer) -> String {
     match answer {
         Answer::Refused(refusal) => refusal_line(*refusal),
         Answer::NoRoute { figures } => format!("80{}\n", figures_digits(figures)),
         Answer::Route { length, path, figures } => {
-            let nodes: String = path.iter().map(|node| format!("{node:04X}")).collect();
-            format!("81{length:08X}{:04X}{}\n82{nodes}\n", path.len(), figures_digits(figures))
+            format!("81{length:08X}{:04X}{}\n{}", path.len(), figures_digits(figures), path_line(path))
         }
+        Answer::Provisional { length, excess, path } => format!("84{length:08X}{excess:08X}\n{}", path_line(path)),
+        Answer::Undecided { turns } => format!("85{turns:04X}\n"),
     }
 }
 
@@ -251,7 +260,7 @@ impl Reading {
     }
 }
 
-/// How many bytes of a line settle its verdict: all with the line feed, or 268
+/// How many bytes of a line settle its verdict: all with the line feed, or 272
 /// digits, or (in a last line without line feed) none before the input ends.
 fn settles_at(line: &[u8], whole: bool) -> Option<usize> {
     let digits = line.iter().take_while(|&&byte| digit_value(byte).is_some()).count();

@@ -1,7 +1,8 @@
-//! Demands 2 and 3 as tests of one accepted query's answer and tables, against a
-//! plain Bellman-Ford that knows nothing of potentials, turns or sides' floors.
+//! Demands 2 and 3, and what is promised of capped queries (docs/RULES.md, "Capped queries"), as tests of
+//! one accepted query's answer and tables, against a plain Bellman-Ford that knows nothing of potentials, turns or
+//! sides' floors; and of the answers to the same query at two caps.
 
-use crate::model::{self, Answer, Fault, Figures, Network, Outcome, Query, Search, Side, State};
+use crate::model::{self, Answer, Fault, Network, Outcome, Query, Search, Side, State};
 
 type Broken = Result<(), String>;
 
@@ -52,12 +53,51 @@ pub fn test_query(network: &Network, query: &Query, others: &[Vec<u8>], fault: O
         test_opened(network, tables, Side::Start, &from_start, from_start[end])?;
         test_opened(network, tables, Side::End, &to_end, from_start[end])?;
     }
+    if let Some(cap) = query.cap {
+        return test_cap(network, query, cap, &outcome, fault);
+    }
     for pattern in others {
-        let other = Query { pattern: pattern.clone(), ..query.clone() };
+        let other = Query::new(query.start, query.end, pattern.clone());
         let answer = model::answer(network, &other, fault).answer;
         demand(verdict(&answer) == from_start[end], || format!("another verdict with pattern {pattern:?}"))?;
     }
     Ok(())
+}
+
+/// A search that ends within its cap is answered as without one; another is stopped there and says so. One turn
+/// more, and all of them, take nothing back.
+fn test_cap(network: &Network, query: &Query, cap: u16, outcome: &Outcome, fault: Option<Fault>) -> Broken {
+    let whole = model::answer(network, &query.at(None), fault);
+    if whole.turns_taken <= usize::from(cap) {
+        demand(outcome.answer == whole.answer, || {
+            format!("cap {cap}: the search ends within it, and the answer differs")
+        })?;
+    } else {
+        let stopped = matches!(outcome.answer, Answer::Provisional { .. } | Answer::Undecided { .. });
+        demand(stopped, || format!("cap {cap}: the search does not end within it, and the answer does not say so"))?;
+        demand(outcome.turns_taken == usize::from(cap), || format!("cap {cap}: {} turns", outcome.turns_taken))?;
+    }
+    let further = model::answer(network, &query.at(Some(cap.saturating_add(1))), fault);
+    takes_nothing_back(&outcome.answer, &further.answer)?;
+    takes_nothing_back(&outcome.answer, &whole.answer)
+}
+
+/// Of two answers to the same query, the second at the larger cap or at none: a route or a no route stays, a length shown
+/// does not grow and its excess neither, and what was decided is not undecided again.
+pub fn takes_nothing_back(smaller: &Answer, larger: &Answer) -> Broken {
+    let stays = match (smaller, larger) {
+        (Answer::Route { .. } | Answer::NoRoute { .. } | Answer::Refused(_), _) => smaller == larger,
+        (Answer::Provisional { length, excess, .. }, Answer::Provisional { length: later, excess: left, .. }) => {
+            later <= length && left <= excess && length - excess <= *later
+        }
+        (Answer::Provisional { length, excess, .. }, Answer::Route { length: later, .. }) => {
+            later <= length && length - excess <= *later
+        }
+        (Answer::Provisional { .. }, _) => false,
+        (Answer::Undecided { turns }, Answer::Undecided { turns: later }) => turns <= later,
+        (Answer::Undecided { .. }, _) => !matches!(larger, Answer::Refused(_)),
+    };
+    demand(stays, || format!("a larger cap takes back {smaller:?} for {larger:?}"))
 }
 
 fn verdict(answer: &Answer) -> Option<i64> {
@@ -68,7 +108,7 @@ fn verdict(answer: &Answer) -> Option<i64> {
 }
 
 /// The route is real, has no node twice and no walk undercuts it; "no route"
-/// stands exactly when there is no walk.
+/// stands only where there is no walk. A provisional route is real too, and no walk undercuts it by more than the excess.
 fn test_verdict(network: &Network, query: &Query, answer: &Answer, truth: Option<i64>) -> Broken {
     match answer {
         Answer::Refused(refusal) => Err(format!("an accepted query is refused with {}", refusal.number)),
@@ -77,6 +117,13 @@ fn test_verdict(network: &Network, query: &Query, answer: &Answer, truth: Option
             demand(truth == Some(*length), || format!("length {length}, Bellman-Ford {truth:?}"))?;
             test_path(network, query, path, *length)
         }
+        Answer::Provisional { length, excess, path } => {
+            let honest = truth.is_some_and(|truth| truth <= *length && *length <= truth + excess);
+            demand(honest, || format!("length {length} with excess {excess}, Bellman-Ford {truth:?}"))?;
+            demand((0..=*length).contains(excess), || format!("excess {excess} of length {length}"))?;
+            test_path(network, query, path, *length)
+        }
+        Answer::Undecided { .. } => Ok(()),
     }
 }
 
@@ -106,19 +153,22 @@ fn cheapest(network: &Network, tail: usize, head: usize) -> Option<u32> {
 }
 
 fn test_figures(outcome: &Outcome, tables: &Search, nodes: usize) -> Broken {
-    let figures = match &outcome.answer {
-        Answer::Route { figures, .. } | Answer::NoRoute { figures } => *figures,
-        Answer::Refused(_) => Figures::default(),
+    let figures = tables.figures();
+    let told = match &outcome.answer {
+        Answer::Route { figures: told, .. } | Answer::NoRoute { figures: told } => *told == figures,
+        Answer::Undecided { turns } => *turns == figures.turns,
+        Answer::Provisional { .. } => true,
+        Answer::Refused(_) => false,
     };
-    demand(figures == tables.figures(), || "the figures are not the counts of the states".into())?;
+    demand(told, || "the figures are not the counts of the states".into())?;
     let left = figures.opened_by_start + figures.opened_by_end + figures.rejected;
     demand(left == figures.turns, || "opened and rejected are not the turns".into())?;
     demand(outcome.turns_taken == figures.turns, || "a turn was taken in which no node left".into())?;
     demand(figures.turns <= nodes, || "more turns than nodes".into())
 }
 
-/// Demand 3: an opened node's label is its exact distance, and that distance plus
-/// its potential less the target's is at most the length, if there is one.
+/// Demand 3, before the end of a search too: an opened node's label is its exact distance, and that distance plus
+/// its potential less the target's is at most the true shortest length, if there is one.
 fn test_opened(network: &Network, tables: &Search, side: Side, exact: &[Option<i64>], truth: Option<i64>) -> Broken {
     let half = tables.half(side);
     let target = tables.half(side.other()).origin;

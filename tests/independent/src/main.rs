@@ -30,7 +30,7 @@ independent answer [--display] [--fault NAME] < FILE   print the independent ans
 independent make SEED         print the file of a seed
 independent show < FILE       print a file's network in words
 independent tables < FILE     print the work lists at the end of each query
-independent cases [--fault NAME]   print P1 to P12 with their work lists, as the program `cases` should
+independent cases [--fault NAME]   print P1 to P12, and some at caps, with their work lists, as the program `cases` should
 ";
 
 const FIXED_SEEDS: Range<u64> = 0..20_000;

@@ -2,7 +2,7 @@
 
 use crate::damage::{damage_bytes, damage_lines};
 use crate::frames::{frame_line, Frame};
-use crate::model::{Arc, Node, Query, MOST_ARCS, MOST_NODES, TOP_WEIGHT};
+use crate::model::{self, Arc, Network, Node, Query, MOST_ARCS, MOST_NODES, TOP_WEIGHT};
 use crate::potentials::{lowered, potentials, reversed, shifted, upset_consistency, upset_range};
 use crate::random::Random;
 
@@ -18,13 +18,17 @@ const LARGE_EVERY: u64 = 64;
 pub fn file(seed: u64) -> Made {
     let mut random = Random::new(seed);
     let is_large = seed.is_multiple_of(LARGE_EVERY);
-    let (mut shape, district) = if is_large {
+    let (mut shape, mut district) = if is_large {
         large(&mut random, seed / LARGE_EVERY)
     } else if seed % 4 == 3 {
         unquiet(&mut random)
     } else {
         small(&mut random)
     };
+    if random.chance(60) {
+        cap_some(&mut random, &mut district);
+        shape += ", capped";
+    }
     let mut lines = district.lines();
     if random.chance(if is_large { 12 } else { 38 }) {
         let times = if random.chance(15) { 2 } else { 1 };
@@ -272,7 +276,7 @@ fn unquiet(random: &mut Random) -> (String, District) {
     let count = 4 + random.below(8);
     let queries = (0..count).map(|_| {
         let (start, end) = two_nodes(random, nodes);
-        Query { start: start as u32, end: end as u32, pattern: rows(random) }
+        Query::new(start as u32, end as u32, rows(random))
     });
     let queries = queries.collect();
     (format!("unquiet {name} of {nodes}"), District { nodes: values, streets, queries })
@@ -455,10 +459,7 @@ fn large(random: &mut Random, turn: u64) -> (String, District) {
         let arcs = arcs_of(&streets);
         let nodes = potentials(random, most, &arcs, 0, most - 1);
         let last = most as u32 - 1;
-        let queries = vec![
-            Query { start: 0, end: last, pattern: pattern(random) },
-            Query { start: last, end: 0, pattern: pattern(random) },
-        ];
+        let queries = vec![Query::new(0, last, pattern(random)), Query::new(last, 0, pattern(random))];
         return (name.into(), District { nodes, streets, queries });
     }
     let queries = if kind == 9 { 1_500 } else { 1 + random.below(5) };
@@ -546,7 +547,7 @@ fn two_nodes(random: &mut Random, nodes: usize) -> (usize, usize) {
 fn queries_for(random: &mut Random, nodes: usize, start: usize, end: usize, count: usize) -> Vec<Query> {
     let mut queries = Vec::new();
     for at in 0..count {
-        let mut query = Query { start: start as u32, end: end as u32, pattern: pattern(random) };
+        let mut query = Query::new(start as u32, end as u32, pattern(random));
         if at > 0 && random.chance(60) {
             let (start, end) = two_nodes(random, nodes);
             query.start = start as u32;
@@ -567,4 +568,40 @@ fn queries_for(random: &mut Random, nodes: usize, start: usize, end: usize, coun
         queries.push(query);
     }
     queries
+}
+
+/// Gives some of the queries a cap, none and few turns, those just before and just at the end of the search, more than
+/// it needs, or any. Where that is quick, the same trip is asked at several caps and perhaps without one, in any order.
+fn cap_some(random: &mut Random, district: &mut District) {
+    let network = Network { nodes: district.nodes.clone(), arcs: arcs_of(&district.streets) };
+    let quick = network.nodes.len() <= 300 && district.queries.len() <= 100;
+    let mut queries = Vec::new();
+    for query in std::mem::take(&mut district.queries) {
+        if random.chance(40) {
+            queries.push(query);
+            continue;
+        }
+        let turns = model::answer(&network, &query, None).turns_taken as u16;
+        let mut caps = vec![Some(cap(random, turns))];
+        if quick {
+            caps.extend((0..1 + random.below(4)).map(|_| Some(cap(random, turns))));
+            caps.extend(random.chance(50).then_some(None));
+            random.shuffle(&mut caps);
+        }
+        queries.extend(caps.into_iter().map(|cap| query.at(cap)));
+    }
+    district.queries = queries;
+}
+
+/// A cap for a search that takes so many turns.
+fn cap(random: &mut Random, turns: u16) -> u16 {
+    match random.below(10) {
+        0 => 0,
+        1 => 1,
+        2 | 3 => turns.saturating_sub(1),
+        4 => turns,
+        5 => random.pick(&[turns + 1, turns + 2, 2_048, 65_535]),
+        6 => random.below(65_536) as u16,
+        _ => random.below(usize::from(turns) + 1) as u16,
+    }
 }

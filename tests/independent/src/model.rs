@@ -1,6 +1,7 @@
 //! Networks and queries (docs/RULES.md, "The network and a query"), the refusal table
-//! (docs/RULES.md, "Refusal numbers") and the search
-//! (docs/RULES.md, "The search, turn by turn"). A missing label is `None`, never a number.
+//! (docs/RULES.md, "Refusal numbers"), the search
+//! (docs/RULES.md, "The search, turn by turn") and what it shows where a cap stops it
+//! (docs/RULES.md, "Capped queries"). A missing label is `None`, never a number.
 
 pub const MOST_NODES: usize = 2_048;
 pub const MOST_ARCS: usize = 8_192;
@@ -33,6 +34,19 @@ pub struct Query {
     pub start: u32,
     pub end: u32,
     pub pattern: Vec<u8>,
+    /// The most turns that its search may take, if that is given.
+    pub cap: Option<u16>,
+}
+
+impl Query {
+    pub fn new(start: u32, end: u32, pattern: Vec<u8>) -> Query {
+        Query { start, end, pattern, cap: None }
+    }
+
+    /// The same query with a cap, or without one.
+    pub fn at(&self, cap: Option<u16>) -> Query {
+        Query { cap, ..self.clone() }
+    }
 }
 
 #[derive(Clone, Copy, Debug, PartialEq, Eq)]
@@ -51,9 +65,25 @@ pub struct Figures {
 
 #[derive(Clone, Debug, PartialEq, Eq)]
 pub enum Answer {
-    Route { length: i64, path: Vec<usize>, figures: Figures },
-    NoRoute { figures: Figures },
+    Route {
+        length: i64,
+        path: Vec<usize>,
+        figures: Figures,
+    },
+    NoRoute {
+        figures: Figures,
+    },
     Refused(Refusal),
+    /// The cap stopped the search: the best length so far, and by how much at most it is too long.
+    Provisional {
+        length: i64,
+        excess: i64,
+        path: Vec<usize>,
+    },
+    /// The cap stopped the search before there was a best length.
+    Undecided {
+        turns: usize,
+    },
 }
 
 /// Deliberate faults, for the test of the test.
@@ -81,10 +111,24 @@ pub enum Fault {
     RejectingTurnIsFree,
     /// Consistency is tested of h alone.
     ForwardConsistencyOnly,
+    /// The last allowed turn is not taken.
+    OneTurnTooFew,
+    /// Step 2 is left out after the last allowed turn.
+    NoStepTwoAtTheCap,
+    /// Only a turn that opens a node counts against the cap.
+    RejectingTurnIsNotCapped,
+    /// The excess is reckoned from the start side's floor alone.
+    StartFloorOnly,
+    /// The excess is reckoned with the end side's floor less h(end), and the start side's less k(start).
+    PotentialsExchanged,
+    /// The excess is reckoned from floors from which no potential is taken off.
+    FloorsAlone,
+    /// The excess is reckoned from the floors alone, without the number 0 beside them.
+    ZeroLeftOut,
 }
 
 impl Fault {
-    pub const ALL: [Fault; 11] = [
+    pub const ALL: [Fault; 18] = [
         Fault::FirstMeeting,
         Fault::HighestAmongEquals,
         Fault::FloorBeforeTurn,
@@ -96,6 +140,13 @@ impl Fault {
         Fault::RelabelsAtEqual,
         Fault::RejectingTurnIsFree,
         Fault::ForwardConsistencyOnly,
+        Fault::OneTurnTooFew,
+        Fault::NoStepTwoAtTheCap,
+        Fault::RejectingTurnIsNotCapped,
+        Fault::StartFloorOnly,
+        Fault::PotentialsExchanged,
+        Fault::FloorsAlone,
+        Fault::ZeroLeftOut,
     ];
 
     pub fn name(self) -> &'static str {
@@ -111,6 +162,13 @@ impl Fault {
             Fault::RelabelsAtEqual => "relabels-at-equal",
             Fault::RejectingTurnIsFree => "rejecting-turn-is-free",
             Fault::ForwardConsistencyOnly => "forward-consistency-only",
+            Fault::OneTurnTooFew => "one-turn-too-few",
+            Fault::NoStepTwoAtTheCap => "no-step-2-at-the-cap",
+            Fault::RejectingTurnIsNotCapped => "rejecting-turn-is-not-capped",
+            Fault::StartFloorOnly => "start-floor-only",
+            Fault::PotentialsExchanged => "potentials-exchanged",
+            Fault::FloorsAlone => "floors-alone",
+            Fault::ZeroLeftOut => "zero-left-out",
         }
     }
 
@@ -416,6 +474,23 @@ impl<'a> Search<'a> {
         }
     }
 
+    /// By how much the best length may be too long: the best length less the largest of three
+    /// numbers (0, the start side's floor less h(end), the end side's floor less k(start)), and 0 if that is negative.
+    fn excess(&self, best: i64) -> i64 {
+        let nodes = &self.network.nodes;
+        let (start, end) = (nodes[self.start_half.origin], nodes[self.end_half.origin]);
+        let (h_end, k_start) = (i64::from(end.h), i64::from(start.k));
+        let (start_floor, end_floor) = (self.start_half.floor, self.end_half.floor);
+        let least_true = match self.fault {
+            Some(Fault::StartFloorOnly) => (start_floor - h_end).max(0),
+            Some(Fault::PotentialsExchanged) => (start_floor - k_start).max(end_floor - h_end).max(0),
+            Some(Fault::FloorsAlone) => start_floor.max(end_floor).max(0),
+            Some(Fault::ZeroLeftOut) => (start_floor - h_end).max(end_floor - k_start),
+            _ => (start_floor - h_end).max(end_floor - k_start).max(0),
+        };
+        (best - least_true).max(0)
+    }
+
     /// From the meeting node back to the start, and on to the end.
     fn path(&self, meeting: usize) -> Vec<usize> {
         let follow = |half: &Half| {
@@ -455,23 +530,44 @@ pub fn answer<'a>(network: &'a Network, query: &Query, fault: Option<Fault>) -> 
         let answer = Answer::Route { length: 0, path: vec![start], figures: Figures::default() };
         return Outcome { answer, tables: Some(search), turns_taken: 0 };
     }
+    let mut cap = query.cap.map(usize::from);
+    if search.faulty(Fault::OneTurnTooFew) {
+        cap = cap.map(|cap| cap.saturating_sub(1));
+    }
     let mut turns_taken = 0;
+    let mut counted = 0;
     let mut entry = 0;
-    while !search.ended() {
+    let ended = loop {
+        if search.faulty(Fault::NoStepTwoAtTheCap) && cap == Some(counted) {
+            break false;
+        }
+        if search.ended() {
+            break true;
+        }
+        if cap == Some(counted) {
+            break false;
+        }
         let side = match query.pattern[entry % query.pattern.len()] {
             0 => Side::Start,
             _ => Side::End,
         };
         let opened = search.turn(side);
         turns_taken += 1;
+        if opened || !search.faulty(Fault::RejectingTurnIsNotCapped) {
+            counted += 1;
+        }
         if opened || !search.faulty(Fault::RejectingTurnIsFree) {
             entry += 1;
         }
-    }
+    };
     let figures = search.figures();
-    let answer = match search.best {
-        None => Answer::NoRoute { figures },
-        Some((length, meeting)) => Answer::Route { length, path: search.path(meeting), figures },
+    let answer = match (ended, search.best) {
+        (true, None) => Answer::NoRoute { figures },
+        (true, Some((length, meeting))) => Answer::Route { length, path: search.path(meeting), figures },
+        (false, None) => Answer::Undecided { turns: turns_taken },
+        (false, Some((length, meeting))) => {
+            Answer::Provisional { length, excess: search.excess(length), path: search.path(meeting) }
+        }
     };
     Outcome { answer, tables: Some(search), turns_taken }
 }

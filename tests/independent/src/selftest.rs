@@ -1,20 +1,22 @@
-//! Tests of the independent program itself: the cases (docs/RULES.md, "Cases"), the order of
+//! Tests of the independent program itself: the cases (docs/RULES.md, "Cases"), capped queries, the order of
 //! lines, the demands over made files, and that the tests notice faults.
 
 use crate::cases::{self, D5, ZERO};
 use crate::check;
 use crate::display::{self, Shown};
 use crate::frames::{self, answer_file, answer_file_up_to, Reader};
+use crate::laws;
 use crate::make;
-use crate::model::{self, Answer, Arc, Fault, Network, Node, Query, MOST_NODES, TOP_WEIGHT};
+use crate::model::{self, Answer, Arc, Fault, Figures, Network, Node, Query, MOST_NODES, TOP_WEIGHT};
 
 type Passed = Result<(), String>;
 
 type Test = (&'static str, fn() -> Passed);
 
-const TESTS: [Test; 11] = [
+const TESTS: [Test; 14] = [
     ("the cases P1 to P12", p_cases),
     ("the cases that are run only", run_only_cases),
+    ("district D5 at each cap", capped_cases),
     ("sound frames and others", sound_frames),
     ("the order of lines", order_of_lines),
     ("line 4,294,967,295", last_line),
@@ -23,6 +25,8 @@ const TESTS: [Test; 11] = [
     ("the largest shortest length", largest_length),
     ("made files: the same for the same seed, and read back", made_files),
     ("the demands over made files", demands),
+    ("what is promised at every cap", every_cap),
+    ("what a larger cap takes back is noticed", taken_back),
     ("every fault is noticed", faults_noticed),
 ];
 
@@ -104,11 +108,62 @@ fn run_only_cases() -> Passed {
     same("digit a", &program(&D5.replace("020000000400000002", "02000000040000000a")), "FF0A00000005\n")
 }
 
+/// A query of D5 at a cap, with the pattern 01.
+fn capped(start: u32, end: u32, cap: u16) -> String {
+    format!("07{start:04X}{end:04X}{cap:04X}0201\n")
+}
+
+fn capped_cases() -> Passed {
+    let route = "810000000300040005000200010002\n820000000100020003\n";
+    let expected = [
+        (0, 3, 0, "850000\n"),
+        (0, 3, 1, "850001\n"),
+        (0, 3, 2, "840000000400000003\n82000000040003\n"),
+        (0, 3, 3, "840000000300000001\n820000000100020003\n"),
+        (0, 3, 4, "840000000300000001\n820000000100020003\n"),
+        (0, 3, 5, route),
+        (0, 3, 6, route),
+        (0, 3, 65_535, route),
+        (3, 0, 0, "850000\n"),
+        (3, 0, 1, "800001000100000000\n"),
+        (2, 2, 0, "810000000000010000000000000000\n820002\n"),
+        (0, 5, 0, "FF0400000000\n"),
+        (5, 0, 5, "FF0400000000\n"),
+    ];
+    let mut all = (D5.to_string(), String::new());
+    for (start, end, cap, lines) in expected {
+        let query = capped(start, end, cap);
+        same(query.trim_end(), &program(&format!("{D5}{query}")), lines)?;
+        same(query.trim_end(), &shown(&format!("{D5}{query}")), lines)?;
+        all = (all.0 + &query, all.1 + lines);
+    }
+    same("all in one file", &program(&all.0), &all.1)?;
+    let entries = |count: usize| format!("{D5}07000000030005{count:02X}{}\n", "01".repeat(128).split_at(count).0);
+    same("at a cap, 64 entries", &program(&entries(64)), route)?;
+    for count in [0, 65, 255] {
+        same("at a cap, a bad pattern", &program(&entries(count)), "FF0500000000\n")?;
+    }
+    same("at a cap, the entry 2", &program(&format!("{D5}0700000003000001{}\n", 2)), "FF0500000000\n")?;
+    let inconsistent = cases::pair("00000001", "0000000200000000", ZERO, "07000000010000010");
+    same("at a cap, refusal 9", &program(&inconsistent), "FF0900000000\n")
+}
+
 // ---------------------------------------------------------------- frames and files
 
 fn sound_frames() -> Passed {
     let long = format!("0400000000FF{}", "F".repeat(255));
-    let sound = ["0100000000", "01FFFFFFFF", "02FFFFFFFFFFFFFFFF", "050000000000000000", &long, "040000000000"];
+    let longest = format!("07FFFFFFFFFFFFFF{}", "F".repeat(255));
+    let sound = [
+        "0100000000",
+        "01FFFFFFFF",
+        "02FFFFFFFFFFFFFFFF",
+        "050000000000000000",
+        &long,
+        "040000000000",
+        &longest,
+        "0700000000000000",
+    ];
+    same("the longest frame", &longest.len().to_string(), &frames::MOST_DIGITS.to_string())?;
     let unsound = [
         "",
         "0",
@@ -131,6 +186,13 @@ fn sound_frames() -> Passed {
         "030000000000000000000",
         "00",
         "070000",
+        "07000000030201",
+        "070000000300020",
+        "070000000300020201F",
+        "0700000003000202",
+        "840000000300000001",
+        "850002",
+        "0800000003000200",
     ];
     for line in sound {
         frames::read_frame(line.as_bytes()).ok_or(format!("{line} should be sound"))?;
@@ -175,7 +237,11 @@ fn order_of_lines() -> Passed {
         ("after an answer, misplaced", format!("{d5}0100010000\n"), format!("{route}FF0B0000000D\n")),
         ("after an answer, cut", format!("{d5}04"), format!("{route}FF0A0000000D\n")),
         ("two queries, one refused", format!("{D5}0400050003010\n{query}"), format!("FF0400000000\n{route}")),
-        ("268 digits, no line feed", format!("{d5}{}", "0".repeat(268)), format!("{route}FF0A0000000D\n")),
+        ("272 digits, no line feed", format!("{d5}{}", "0".repeat(272)), format!("{route}FF0A0000000D\n")),
+        ("84 in input", format!("{d5}840000000300000001\n"), format!("{route}FF0A0000000D\n")),
+        ("85 in input", format!("{D5}850002\n"), "FF0A0000000C\n".into()),
+        ("07 before its place", D5.replace("0300040000000000000000", "07000000030005010"), "FF0B0000000B\n".into()),
+        ("07 and 04", format!("{D5}07000000030005010\n{query}"), format!("{route}{route}")),
         ("nothing after a file refusal", format!("x\n{d5}"), "FF0A00000001\n".into()),
     ];
     for (name, file, expected) in files {
@@ -201,6 +267,9 @@ fn one_query() -> Passed {
     let route = program(&one);
     same("one query", &shown(&one), &route)?;
     same("a second", &shown(&format!("{one}0400000003010\n")), &format!("{route}FF0B0000000D\n"))?;
+    same("a second, capped", &shown(&format!("{one}07000000030005010\n")), &format!("{route}FF0B0000000D\n"))?;
+    let first_capped = format!("{D5}07000000030000010\n{}", "0400000003010\n");
+    same("a second after a capped one", &shown(&first_capped), "850000\nFF0B0000000D\n")?;
     same("a second, refused", &shown(&format!("{one}0400090003010\n")), &format!("{route}FF0B0000000D\n"))?;
     same("a second, unsound", &shown(&format!("{one}0400000003011F\n")), &format!("{route}FF0A0000000D\n"))?;
     let refused = format!("{D5}0400090003010\n");
@@ -244,7 +313,7 @@ fn rooms_judged() -> Passed {
 fn largest_length() -> Passed {
     let arcs = (1..MOST_NODES as u32).map(|head| Arc { tail: head - 1, head, weight: TOP_WEIGHT });
     let network = Network { nodes: vec![Node { h: 0, k: 0 }; MOST_NODES], arcs: arcs.collect() };
-    let query = Query { start: 0, end: MOST_NODES as u32 - 1, pattern: vec![0, 1] };
+    let query = Query::new(0, MOST_NODES as u32 - 1, vec![0, 1]);
     match model::answer(&network, &query, None).answer {
         Answer::Route { length: 2_047_000_000, path, .. } if path.len() == MOST_NODES => Ok(()),
         _ => Err("not 2,047,000,000".into()),
@@ -275,21 +344,88 @@ fn demands() -> Passed {
     Ok(())
 }
 
-/// Each fault changes the answers to some file; and stopping at the first meeting
-/// breaks demand 2 by the tests of the demands alone.
+/// The queries of small files, at every cap from 0 to one turn more than their search takes.
+fn every_cap() -> Passed {
+    let mut stopped = [0; 2];
+    for seed in 0..600 {
+        let file = answer_file(&make::file(seed).bytes, Reader::Program, None);
+        let small = file.network.nodes.len() <= 40;
+        let accepted = file.asked.iter().filter(|(_, answer)| small && !matches!(answer, Answer::Refused(_)));
+        for (query, _) in accepted.take(3) {
+            let turns = model::answer(&file.network, &query.at(None), None).turns_taken as u16;
+            for cap in 0..=turns + 1 {
+                let query = query.at(Some(cap));
+                laws::test_query(&file.network, &query, &[], None).map_err(|what| format!("seed {seed}: {what}"))?;
+                match model::answer(&file.network, &query, None).answer {
+                    Answer::Provisional { .. } => stopped[0] += 1,
+                    Answer::Undecided { .. } => stopped[1] += 1,
+                    _ => {}
+                }
+            }
+        }
+    }
+    if stopped.contains(&0) {
+        return Err(format!("{stopped:?} provisional and undecided"));
+    }
+    Ok(())
+}
+
+fn taken_back() -> Passed {
+    let provisional = |length, excess| Answer::Provisional { length, excess, path: vec![0, 1] };
+    let route = |length| Answer::Route { length, path: vec![0, 1], figures: Figures::default() };
+    let no_route = || Answer::NoRoute { figures: Figures::default() };
+    let undecided = |turns| Answer::Undecided { turns };
+    let pairs = [
+        (undecided(1), undecided(2), true),
+        (undecided(2), undecided(1), false),
+        (undecided(1), provisional(5, 5), true),
+        (undecided(1), no_route(), true),
+        (undecided(1), route(5), true),
+        (provisional(5, 2), provisional(5, 2), true),
+        (provisional(5, 2), provisional(4, 1), true),
+        (provisional(5, 2), provisional(6, 2), false),
+        (provisional(5, 2), provisional(5, 3), false),
+        (provisional(5, 2), provisional(2, 0), false),
+        (provisional(5, 2), undecided(3), false),
+        (provisional(5, 2), no_route(), false),
+        (provisional(5, 2), route(3), true),
+        (provisional(5, 2), route(2), false),
+        (provisional(5, 2), route(6), false),
+        (route(5), route(5), true),
+        (route(5), route(4), false),
+        (route(5), provisional(5, 0), false),
+        (no_route(), no_route(), true),
+        (no_route(), undecided(9), false),
+        (no_route(), route(1), false),
+    ];
+    for (smaller, larger, right) in pairs {
+        if laws::takes_nothing_back(&smaller, &larger).is_ok() != right {
+            return Err(format!("{smaller:?} and then {larger:?}"));
+        }
+    }
+    Ok(())
+}
+
+/// Faults that break what is promised, by the tests of that alone: stopping at the first meeting breaks demand 2, an
+/// excess reckoned without potentials is not honest, and the end of a search within its cap must be seen.
+const BREAKING: [Fault; 3] = [Fault::FirstMeeting, Fault::FloorsAlone, Fault::NoStepTwoAtTheCap];
+
+/// Each fault changes the answers to some file, and each that breaks a promise is seen to do so.
 fn faults_noticed() -> Passed {
-    let mut broken = false;
+    let mut broken = [false; BREAKING.len()];
     let mut seen = [false; Fault::ALL.len()];
     for seed in 1..1_500 {
         let file = make::file(seed).bytes;
         let sound = answer_file(&file, Reader::Program, None);
-        broken = broken || check::own_tests(seed, &sound, Some(Fault::FirstMeeting)).is_err();
+        for (fault, broken) in BREAKING.into_iter().zip(&mut broken) {
+            *broken = *broken || check::own_tests(seed, &sound, Some(fault)).is_err();
+        }
         for (fault, seen) in Fault::ALL.into_iter().zip(&mut seen) {
             *seen = *seen || answer_file(&file, Reader::Program, Some(fault)).output != sound.output;
         }
     }
-    if !broken {
-        return Err("the demands' tests pass a search that stops at the first meeting".into());
+    if let Some(at) = broken.iter().position(|broken| !broken) {
+        return Err(format!("the demands' tests pass {}", BREAKING[at].name()));
     }
     match seen.iter().position(|seen| !seen) {
         Some(at) => Err(format!("{} is not noticed", Fault::ALL[at].name())),

@@ -2,12 +2,11 @@
 use mathlib.Core.Path.{_≡_, refl, sym, _∙_}
 use mathlib.Core.Logic.{⊎-elim}
 use mathlib.Core.List.{List, []}
-use Prim.Native.Nat.{ℕ, _+_, _≤_}
+use Prim.Native.Nat.{ℕ}
 use native.Mathlib.Omega.{arith}
 use denote.Enum.Declared.{tagOf}
-use lib.ListN.{length}
 use Rattle.frames.specs.Digits.{valueOf, valueTable}
-use Rattle.frames.specs.Frame.{entriesFrom, entriesOf, patternOf}
+use Rattle.frames.specs.Frame.{entriesOf, patternOf}
 use Rattle.frames.specs.FrameCases.{query-length}
 use Rattle.frames.specs.RoomLaws.{laid-placed, too-little-room, nothing-placed}
 use Rattle.frames.specs.LineSteps.{query-pattern, length-pattern}

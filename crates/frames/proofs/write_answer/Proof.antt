@@ -67,7 +67,8 @@ returns-4 : tie.Need-returns-4
 returns-4 c =
     let answer4 = c .before .before .before .before .before .answer4 in
     let write-provisional = c .before .before .write-provisional in
-    rw (answer4 .given .1) (write-provisional .ensures (answer4 .given .0 .1 .1 .1 .0))
+    let values = answer4 .given .0 in
+    rw (answer4 .given .1) (write-provisional .ensures (values .1 .1 .1 .0))
 
 same-length-5 : tie.Need-same-length-5
 same-length-5 c = search needs
