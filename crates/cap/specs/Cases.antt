@@ -1,12 +1,10 @@
 -- Cases of when a search at a cap stops and of what it answers: who makes a turn too many or too few, who asks whether the search
 -- has ended only while turns are left, and who lets the excess be negative, computes something else. Assumes nothing.
 use mathlib.Core.Path.{_≡_, refl}
-use mathlib.Core.List.{List, [], _∷_}
-use Prim.Native.Nat.{ℕ}
+use mathlib.Core.List.{[], _∷_}
 use lib.IntN.{pos, negsuc}
 use Rattle.nba.specs.Result.{excessOver}
 use Rattle.nba.specs.Search.{none, node}
-use Rattle.cap.specs.declared.Course.{Course}
 use Rattle.cap.specs.declared.Course.the-variants.{Turn, Ended, UsedUp}
 use Rattle.cap.specs.Stop.{courseOf}
 

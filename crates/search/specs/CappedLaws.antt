@@ -2,12 +2,11 @@
 -- cap, and the others are honest and never taken back. What such a query leaves is one thing only, and without a cap it is what a
 -- query leaves at as many turns as there are nodes. Assumes nothing.
 use mathlib.Core.Path.{_≡_, refl, sym, ap, _∙_}
-use mathlib.Core.Bool.{Bool, true, false, cond}
 use Prim.Native.Nat.{ℕ, _≤_}
 use native.Mathlib.Omega.{arith}
 use lib.ListN.{take}
 use Rattle.network.specs.declared.Answer.{Answer}
-use Rattle.network.specs.declared.Answer.the-variants.{Route, NoRoute, Refused, Provisional, Undecided}
+use Rattle.network.specs.declared.Answer.the-variants.{Route, NoRoute, Refused, Provisional}
 use Rattle.network.specs.declared.Cause.{Cause}
 use Rattle.network.specs.declared.Figures.{Figures}
 use Rattle.network.specs.declared.Verdict.{Verdict}
@@ -19,19 +18,24 @@ use Rattle.network.specs.Query.{Query}
 use Rattle.network.specs.Refusal.{queryVerdict}
 use Rattle.nba.specs.State.{present}
 use Rattle.nba.specs.Search.{stateAt}
-use Rattle.nba.specs.Result.{figuresIn, answerAt, found, refusedOr, over, excess, unendedAt, foundAt, answerToAt}
-use Rattle.nba.specs.Demands.{pathAt, NoWorse, IsUndecided, undecided-yet}
+use Rattle.nba.specs.Result.{figuresIn, answerAt, refusedOr, over, unendedAt, foundAt, answerToAt}
+use Rattle.nba.specs.Demands.{pathAt, IsUndecided, undecided-yet}
 use Rattle.nba.specs.Why.Capped.{honest, decided-stays, never-taken-back, demand-3-turns-at, capped-at-nodes, over-is-end}
 use Rattle.nba.specs.Why.ReadLaws.{provisional-read, Decided, route-decided, none-decided, decided-over}
 use Rattle.nba.specs.Why.Theorems.{demand-3-opened-at}
-use Rattle.search.specs.Promise.{LentLists, lengths, listsAt, Left, left, searchLeaves, searchLeavesAt, verdictLeaves, queried, queriedAt}
-use Rattle.search.specs.Demands.{Demand1, Demand2, Demand3, HasFigures, of-a-route, of-no-route, QueryKept, ShowsFigures, of-ended, of-provisional, of-undecided, HonestAnswer, NotTakenBack, Demand3AtCap, CappedKept}
-use Rattle.search.specs.DemandLaws.{same-left, by-verdict, accepted-leaves, accepted-if, demand-1-kept, path-shown, state-shown, label-shown, demand-2-kept, demand-3-kept, query-kept}
+use Rattle.search.specs.Promise.{LentLists, lengths, listsAt, Left, left, searchLeavesAt, verdictLeaves, queried, queriedAt}
+use Rattle.search.specs.Demands.{Demand2, Demand3, HasFigures, of-a-route, of-no-route, QueryKept, ShowsFigures, of-ended, of-provisional, of-undecided, HonestAnswer, NotTakenBack, Demand3AtCap, CappedKept}
+use Rattle.search.specs.DemandLaws.{same-left, by-verdict, accepted-leaves, accepted-if, demand-1-kept, path-shown, state-shown, label-shown, query-kept}
 
 -- what is promised of a query with a cap admits one answer and one set of lists
 pub capped-query-one-answer : (q : Query) (cap : ℕ) (before : LentLists) (r r′ : Answer) (after after′ : LentLists)
     → CappedKept q cap before after r → CappedKept q cap before after′ r′ → (r ≡ r′) × (after ≡ after′)
 capped-query-one-answer q cap before r r′ after after′ k k′ = same-left (k .leaves ∙ sym (k′ .leaves))
+
+-- and so does what is promised of the search of an accepted query at a cap
+pub search-accepted-one-answer : (q : Query) (cap : ℕ) (before : LentLists) (r r′ : Answer) (after after′ : LentLists)
+    → left r after ≡ searchLeavesAt q cap before → left r′ after′ ≡ searchLeavesAt q cap before → (r ≡ r′) × (after ≡ after′)
+search-accepted-one-answer q cap before r r′ after after′ e f = same-left (e ∙ sym f)
 
 -- the answer that it leaves is `answerToAt`, of which the cases are proved
 pub capped-query-answers : (q : Query) (cap : ℕ) (l : LentLists) → queriedAt q cap l .answer ≡ answerToAt q cap (lengths l)

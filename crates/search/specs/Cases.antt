@@ -1,6 +1,6 @@
--- Cases of what a query leaves, entry for entry, in lists that are one entry longer than needed: who writes beyond the node
--- count or beyond the path, who shows a path where there is no route, and who writes and then refuses, leaves something else.
--- One list, and one proof over it by computation. Assumes nothing.
+-- Cases of what a query leaves, without a cap and at one, entry for entry, in lists that are one entry longer than needed: who writes
+-- beyond the node count or beyond the path, who shows a path where there is no route or nothing yet, who makes a turn after the last
+-- of a cap, and who writes and then refuses, leaves something else. One list, and one proof over it by computation. Assumes nothing.
 use mathlib.Core.Path.{_≡_, refl}
 use mathlib.Core.List.{List, [], _∷_, map}
 use Prim.Native.Nat.{ℕ}
@@ -8,26 +8,35 @@ use lib.IntN.{pos}
 use lib.ListN.{replicate}
 use Rattle.network.specs.declared.Figures.{Figures}
 use Rattle.network.specs.declared.Cause.the-variants.{Pattern}
-use Rattle.network.specs.declared.Answer.the-variants.{Route, NoRoute, Refused}
+use Rattle.network.specs.declared.Answer.the-variants.{Route, NoRoute, Refused, Provisional, Undecided}
+use Rattle.network.specs.declared.Cap.{Cap}
+use Rattle.network.specs.declared.Cap.the-variants.{Uncapped, AtMost}
 use Rattle.network.specs.Network.{network, isArc}
 use Rattle.network.specs.Potential.{keepsRule}
 use Rattle.network.specs.Query.{Query, query, sideOfTurn}
 use Rattle.network.specs.Refusal.{lowest, badNodeCount, badArcLists, badPotentialLists, badStartOrEnd, badEntry, badPattern, badRoom, badArc, outOfRange, badPotential, breaksRule, listRows, tripRows, mapRows, firstRefusal, queryVerdict}
 use Rattle.nba.specs.State.{missing, noNode}
-use Rattle.nba.specs.Search.{beginningHalf, atBeginning, lower, leastBelow, candidate, ended, rejected, arcsBelow, arcsOf, withLabel, withMeeting, lookAt, lookAtEach, halfAfter, afterReach, rejecting, opening, turn, turnUnlessEnded, afterTurns, atOnce, stateAt, endState}
-use Rattle.nba.specs.Result.{trail, turnedBefore, pathThrough, pathOf, countOf, figuresIn, answerAt, found}
+use Rattle.nba.specs.Search.{beginningHalf, atBeginning, lower, leastBelow, candidate, ended, rejected, arcsBelow, arcsOf, withLabel, withMeeting, lookAt, lookAtEach, halfAfter, afterReach, rejecting, opening, turn, turnUnlessEnded, afterTurns, atOnce, stateAt}
+use Rattle.nba.specs.Result.{trail, turnedBefore, pathThrough, pathOf, countOf, figuresIn, answerAt, found, excessOver, excess, unendedAt, foundAt}
 use Rattle.search.specs.Tables.{atFront}
-use Rattle.search.specs.Promise.{lentLists, shownPath, listsAt, Left, left, queried}
+use Rattle.search.specs.Promise.{LentLists, lentLists, shownPath, listsAt, Left, left, queried, queriedAt}
 
 -- a query on the lists below, and what it leaves
 pub record LeavingCase : Type 0 where
   pub asked : Query
+  pub cap : Cap
   pub leaves : Left
 
 -- ---- words for the cases
--- two nodes, one arc from 0 to 1 of weight 1, potentials 0: start, end and pattern
+-- two nodes, one arc from 0 to 1 of weight 1, potentials 0: start, end, pattern and cap
+abbrev tripUnder : ℕ → ℕ → List ℕ → Cap → Left → LeavingCase
+tripUnder s e p c l = record { asked = query (network 2 (0 ∷ []) (1 ∷ []) (1 ∷ [])) (replicate 2 (pos 0)) (replicate 2 (pos 0)) s e p; cap = c; leaves = l }
+
 abbrev trip : ℕ → ℕ → List ℕ → Left → LeavingCase
-trip s e p l = record { asked = query (network 2 (0 ∷ []) (1 ∷ []) (1 ∷ [])) (replicate 2 (pos 0)) (replicate 2 (pos 0)) s e p; leaves = l }
+trip s e p = tripUnder s e p Uncapped
+
+abbrev tripAt : ℕ → ℕ → List ℕ → ℕ → Left → LeavingCase
+tripAt s e p n = tripUnder s e p (AtMost n)
 
 -- turns, nodes opened by each side, nodes rejected
 abbrev counts : ℕ → ℕ → ℕ → ℕ → Figures
@@ -51,13 +60,27 @@ leaving-cases =
     ∷ trip 1 1 (0 ∷ []) (left (Route 0 1 (counts 0 0 0 0)) (lentLists (over missing 0) (over noNode noNode) (over missing 0) (over noNode noNode) (over 0 0) (over 1 8)))
     -- an empty pattern: nothing changes
     ∷ trip 0 1 [] (left (Refused Pattern) (lentLists old old old old old old))
+    -- the route at a cap of two turns, which it takes; at one turn it is provisional, with no excess; at none the query is undecided, with
+    -- the tables as at the beginning of a search and the path list whole
+    ∷ tripAt 0 1 (0 ∷ []) 2 (left (Route 1 2 (counts 2 1 0 1)) (lentLists (over 0 1) (over noNode 0) (over missing 0) (over noNode noNode) (over 1 2) (over 0 1)))
+    ∷ tripAt 0 1 (0 ∷ []) 1 (left (Provisional 1 0 2 (counts 1 1 0 0)) (lentLists (over 0 1) (over noNode 0) (over missing 0) (over noNode noNode) (over 1 0) (over 0 1)))
+    ∷ tripAt 0 1 (0 ∷ []) 0 (left (Undecided (counts 0 0 0 0)) (lentLists (over 0 missing) (over noNode noNode) (over missing 0) (over noNode noNode) (over 0 0) old))
+    -- no route after the last turn of the cap: whether the search has ended is asked once more
+    ∷ tripAt 1 0 (0 ∷ []) 1 (left (NoRoute (counts 1 1 0 0)) (lentLists (over missing 0) (over noNode noNode) (over 0 missing) (over noNode noNode) (over 0 1) old))
+    -- start equal to end needs no turn, and a bad pattern is refused at any cap
+    ∷ tripAt 1 1 (0 ∷ []) 0 (left (Route 0 1 (counts 0 0 0 0)) (lentLists (over missing 0) (over noNode noNode) (over missing 0) (over noNode noNode) (over 0 0) (over 1 8)))
+    ∷ tripAt 0 1 [] 0 (left (Refused Pattern) (lentLists old old old old old old))
     ∷ []
 
 -- ---- what is left
+abbrev leftUnder : Cap → Query → LentLists → Left
+leftUnder Uncapped q l = queried q l
+leftUnder (AtMost n) q l = queriedAt q n l
+
 unfoldable pub leaving : LeavingCase → LeavingCase
-leaving c = record { asked = c .asked; leaves = queried (c .asked) (lentLists old old old old old old) }
+leaving c = record { asked = c .asked; cap = c .cap; leaves = leftUnder (c .cap) (c .asked) (lentLists old old old old old old) }
 
 -- ---- the proof, by computation
 pub cases-left : map leaving leaving-cases ≡ leaving-cases
-unfolding leaving queried listsAt shownPath atFront found answerAt figuresIn countOf pathOf pathThrough turnedBefore trail stateAt atOnce afterTurns turnUnlessEnded turn opening rejecting afterReach halfAfter lookAtEach lookAt withMeeting withLabel arcsOf arcsBelow rejected ended candidate leastBelow lower atBeginning beginningHalf sideOfTurn isArc keepsRule queryVerdict firstRefusal mapRows tripRows listRows breaksRule badPotential outOfRange badArc badRoom badPattern badEntry badStartOrEnd badPotentialLists badArcLists badNodeCount lowest
+unfolding leaving queried queriedAt listsAt shownPath atFront found foundAt answerAt unendedAt excess excessOver figuresIn countOf pathOf pathThrough turnedBefore trail stateAt atOnce afterTurns turnUnlessEnded turn opening rejecting afterReach halfAfter lookAtEach lookAt withMeeting withLabel arcsOf arcsBelow rejected ended candidate leastBelow lower atBeginning beginningHalf sideOfTurn isArc keepsRule queryVerdict firstRefusal mapRows tripRows listRows breaksRule badPotential outOfRange badArc badRoom badPattern badEntry badStartOrEnd badPotentialLists badArcLists badNodeCount lowest
 cases-left = refl

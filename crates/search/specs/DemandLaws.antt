@@ -32,7 +32,7 @@ use Rattle.nba.specs.Why.PathLaws.{joined-walk}
 use Rattle.nba.specs.Why.ReadLaws.{Decided, route-decided, none-decided}
 use Rattle.nba.specs.Why.Theorems.{demand-2, demand-3-turns, demand-3-opened-at, demand-3-bound, demand-3-same}
 use Rattle.search.specs.Tables.{atFront}
-use Rattle.search.specs.Promise.{LentLists, lengths, shownPath, listsAt, listsAfter, Left, left, searchLeaves, searchLeavesAt, verdictLeaves, queried}
+use Rattle.search.specs.Promise.{LentLists, lengths, shownPath, listsAt, listsAfter, Left, left, searchLeaves, verdictLeaves, queried}
 use Rattle.search.specs.Demands.{IsRefusal, of-cause, Demand1, Demand2, Demand3, HasFigures, of-a-route, of-no-route, labelsIn, QueryKept}
 
 pub same-left : {r r′ : Answer} {l l′ : LentLists} → left r l ≡ left r′ l′ → (r ≡ r′) × (l ≡ l′)
@@ -42,11 +42,6 @@ same-left e = (ap (λ (x : Left). x .answer) e, ap (λ (x : Left). x .lists) e)
 pub query-one-answer : (q : Query) (before : LentLists) (r r′ : Answer) (after after′ : LentLists)
     → QueryKept q before after r → QueryKept q before after′ r′ → (r ≡ r′) × (after ≡ after′)
 query-one-answer q before r r′ after after′ k k′ = same-left (k .leaves ∙ sym (k′ .leaves))
-
--- and so does what is promised of the search of an accepted query at a cap
-pub search-accepted-one-answer : (q : Query) (cap : ℕ) (before : LentLists) (r r′ : Answer) (after after′ : LentLists)
-    → left r after ≡ searchLeavesAt q cap before → left r′ after′ ≡ searchLeavesAt q cap before → (r ≡ r′) × (after ≡ after′)
-search-accepted-one-answer q cap before r r′ after after′ e f = same-left (e ∙ sym f)
 
 -- the answer that a query leaves is `answerTo`, of which the cases are proved
 pub query-answers : (q : Query) (l : LentLists) → queried q l .answer ≡ answerTo q (lengths l)
@@ -194,7 +189,7 @@ module _ (q : Query) (before after : LentLists) (r : Answer) (e : left r after �
       let read = route-read q (endState q) l n f (found-route h) in
       path-shown q (q .network .nodes) before (searched-leaves (route-accepted h) .1) (read .here) (read .nodes-are)
 
-  pub demand-2-kept : Demand2 q after r
+  demand-2-kept : Demand2 q after r
   demand-2-kept =
       record {
         real = λ h. rw (route-shown h) (demand-2 (accepted-sound q (lengths before) (route-accepted h)) .real (found-route h));
@@ -226,7 +221,7 @@ module _ (q : Query) (before after : LentLists) (r : Answer) (e : left r after �
       let there : queried (withPattern p q) before .answer ≡ found (withPattern p q) = accepted-answer (withPattern p q) before v′ in
       rw (searched-leaves v .0, there) (demand-3-same p (sound v) (accepted-sound (withPattern p q) (lengths before) v′))
 
-  pub demand-3-kept : Demand3 q before after r
+  demand-3-kept : Demand3 q before after r
   demand-3-kept = record {
     turns = λ h d. let v = figures-accepted h in rw (figures-found q (rw (searched-leaves v .0) at h)) (demand-3-turns (sound v) d);
     reached = λ h s u i o. let v = figures-accepted h in rw (label-shown q (q .network .nodes) before (at-end v) s u i) (demand-3-opened-at (sound v) (q .network .nodes) .reached s u (sym (state-shown q (q .network .nodes) before (at-end v) u i) ∙ o));

@@ -173,6 +173,7 @@ pub fn find(
             over: true,
         };
     }
+    let mut over = false;
     let mut turns: usize = 0;
     'turns: loop {
         let own = p.own;
@@ -202,17 +203,13 @@ pub fn find(
                 turns += 1;
             }
             Course::Ended => {
-                return Stop {
-                    progress: p,
-                    over: true,
-                };
+                over = true;
+                break 'turns;
             }
             Course::UsedUp => {
-                return Stop {
-                    progress: p,
-                    over: false,
-                };
+                break 'turns;
             }
         }
     }
+    Stop { progress: p, over }
 }

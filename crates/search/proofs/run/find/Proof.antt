@@ -3,6 +3,7 @@
 -- fewer turns than there are nodes. Assumes nothing.
 use Prim.Native.Nat.{ℕ, _-_}
 use mathlib.Core.Path.{_≡_, refl, sym, ap, _∙_}
+use mathlib.Core.Bool.{false}
 use native.Mathlib.Omega.{arith}
 use lib.ListN.{length}
 use borrow.Author.Needs.{needs}
@@ -13,12 +14,13 @@ use Rattle.search.proofs.run.find.Statement.{statement}
 use Rattle.search.proofs.run.find.Tie as tie
 
 abbrev Inv-turns : tie.InvT-turns
-Inv-turns tails heads weights forward backward s e pattern cap start-labels₀ start-neighbours₀ end-labels₀ end-neighbours₀ states₀ p₀ turns₀ start-labels start-neighbours end-labels end-neighbours states p turns =
+Inv-turns tails heads weights forward backward s e pattern cap start-labels₀ start-neighbours₀ end-labels₀ end-neighbours₀ states₀ p₀ over₀ turns₀ start-labels start-neighbours end-labels end-neighbours states p over turns =
     (length states ≡ length states₀)
+    × (over ≡ false)
     × Going (query (network (length states) tails heads weights) forward backward s e pattern) cap turns start-labels start-neighbours end-labels end-neighbours states p
 
 abbrev μ-turns : tie.MeasureT-turns
-μ-turns tails heads weights forward backward s e pattern cap start-labels₀ start-neighbours₀ end-labels₀ end-neighbours₀ states₀ p₀ turns₀ start-labels start-neighbours end-labels end-neighbours states p turns =
+μ-turns tails heads weights forward backward s e pattern cap start-labels₀ start-neighbours₀ end-labels₀ end-neighbours₀ states₀ p₀ over₀ turns₀ start-labels start-neighbours end-labels end-neighbours states p over turns =
     length states₀ - turns
 
 -- the query at entry, of a network with n nodes
@@ -80,6 +82,7 @@ turns-holds c =
     let end-neighbours = c .before .before .before .before .end-neighbours in
     let states = c .before .before .states in (
       refl,
+      refl,
       rw (states .given)
           (record {
             few = omega arith;
@@ -101,7 +104,7 @@ next-turn-requires c κs =
     let turns = c .before .before .before .before .before .before .before .before .before .turns in
     let next = c .before .before .before .before .before .before .before .before .next in
     let course = c .before .before .before .before .before .before .course in
-    let w = turns .inv .1 in
+    let w = turns .inv .2 in
     (w .sound, (w .long, both-take (w .sound) (w .way) (entry .args .cap) (sym (course .given .1) ∙ next .ensures) refl refl))
 
 add-turns : tie.Need-add-turns Inv-turns μ-turns
@@ -112,8 +115,8 @@ add-turns c =
     let course = c .before .before .before .before .before .before .before .before .before .before .before .before .before .before .before .before .before .course in
     omega (
       arith,
-      turns .inv .1 .sound .sized .few-nodes,
-      turns-left (turns .inv .1 .sound) (turns .inv .1 .way) (entry .args .cap) (sym (course .given .1) ∙ next .ensures),
+      turns .inv .2 .sound .sized .few-nodes,
+      turns-left (turns .inv .2 .sound) (turns .inv .2 .way) (entry .args .cap) (sym (course .given .1) ∙ next .ensures),
     )
 
 turns-less : tie.Need-turns-less Inv-turns μ-turns
@@ -122,7 +125,7 @@ turns-less c =
     let turns = c .before .before .before .before .before .before .before .before .before .before .before .before .before .before .before .before .before .before .before .before .turns in
     let next = c .before .before .before .before .before .before .before .before .before .before .before .before .before .before .before .before .before .before .before .next in
     let course = c .before .before .before .before .before .before .before .before .before .before .before .before .before .before .before .before .before .course in
-    omega (arith, turns .inv .0, turns-left (turns .inv .1 .sound) (turns .inv .1 .way) (entry .args .cap) (sym (course .given .1) ∙ next .ensures))
+    omega (arith, turns .inv .0, turns-left (turns .inv .2 .sound) (turns .inv .2 .way) (entry .args .cap) (sym (course .given .1) ∙ next .ensures))
 
 turns-again : tie.Need-turns-again Inv-turns μ-turns
 turns-again c =
@@ -137,10 +140,11 @@ turns-again c =
     let end-neighbours2 = c .before .before .before .end-neighbours2 in
     let states2 = c .before .states2 in (
       states2 .given ∙ turns .inv .0,
+      turns .inv .1,
       going-on {q = asked entry (length (turns .states))} {i = turns .turns}
           {sl = turns .start-labels} {sn = turns .start-neighbours} {el = turns .end-labels} {en = turns .end-neighbours}
           {states = turns .states} {p = turns .p}
-          (turns .inv .1)
+          (turns .inv .2)
           _ _ _ _ _ _
           (ap (asked entry) (sym (states2 .given))) (sym (course .given .1) ∙ next .ensures)
           (start-labels2 .given) (start-neighbours2 .given) (end-labels2 .given) (end-neighbours2 .given) (states2 .given)
@@ -149,6 +153,9 @@ turns-again c =
 
 enum-told : tie.Need-enum-told Inv-turns μ-turns
 enum-told c = search needs
+
+enum-told-2 : tie.Need-enum-told-2 Inv-turns μ-turns
+enum-told-2 c = search needs
 
 -- at the head of the turns each list is as long as it was lent
 as-lent : (c : tie.At-turns Inv-turns μ-turns) →
@@ -162,7 +169,7 @@ as-lent c =
     let entry = c .before .before .before .before .before .before .before .before .before .before .before .before .before .before .before .before .before .before .before .before .before .before .before .before .before .before .before in
     let states = c .before .before .before .states in
     let states-long = c .turns .inv .0 ∙ states .given in
-    let long = c .turns .inv .1 .long in
+    let long = c .turns .inv .2 .long in
     let lent = entry .pre .1 in (
       long .labels-long ∙ states-long ∙ sym (lent .labels-long),
       long .neighbours-long ∙ states-long ∙ sym (lent .neighbours-long),
@@ -206,14 +213,11 @@ returns-2 c =
     stops-ended {q = asked entry (length (turns .states))} {i = turns .turns}
     {sl = turns .start-labels} {sn = turns .start-neighbours} {el = turns .end-labels} {en = turns .end-neighbours}
     {states = turns .states} {p = turns .p}
-    (turns .inv .1)
+    (turns .inv .2)
     (asked entry (length (entry .args .states .now)))
     (ap (asked entry) (as-lent at-turns .4))
     (if1 .left)
     (sym (c .enum-told .given .1) ∙ next .ensures)
-
-enum-told-2 : tie.Need-enum-told-2 Inv-turns μ-turns
-enum-told-2 c = search needs
 
 same-length-11 : tie.Need-same-length-11 Inv-turns μ-turns
 same-length-11 c =
@@ -247,14 +251,14 @@ returns-3 c =
     let turns = c .before .before .before .turns in
     let at-turns = c .before .before .before in
     let next = c .before .before .next in
-    stops-used-up {q = asked entry (length (turns .states))} {i = turns .turns}
+    rw (turns .inv .1) (stops-used-up {q = asked entry (length (turns .states))} {i = turns .turns}
     {sl = turns .start-labels} {sn = turns .start-neighbours} {el = turns .end-labels} {en = turns .end-neighbours}
     {states = turns .states} {p = turns .p}
-    (turns .inv .1)
+    (turns .inv .2)
     (asked entry (length (entry .args .states .now)))
     (ap (asked entry) (as-lent at-turns .4))
     (if1 .left)
-    (sym (c .enum-told2 .given .1) ∙ next .ensures)
+    (sym (c .enum-told2 .given .1) ∙ next .ensures))
 
 pub find-spec : {M : Type 1} → statement M
 find-spec =
@@ -277,13 +281,13 @@ find-spec =
     turns-less
     turns-again
     enum-told
+    enum-told-2
     same-length-6
     same-length-7
     same-length-8
     same-length-9
     same-length-10
     returns-2
-    enum-told-2
     same-length-11
     same-length-12
     same-length-13
