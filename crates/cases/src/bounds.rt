@@ -42,103 +42,40 @@ fn loops(
     );
 }
 
+// So many nodes, with one arc and pattern 0.
+fn sized(name: &[u8], nodes: u16, potentials: &[i32], path: usize) {
+    loops(name, nodes, &[0], &[0], potentials, &[0], path);
+}
+
 // Node counts, and lists that are one entry short.
-fn node_counts() {
-    let ends = [0u16; 1];
-    let weights = [0u32; 1];
-    let turn = [0u8; 1];
-    loops(b"0 nodes", 0, &ends, &weights, &[0; 1], &turn, 0);
-    loops(
-        b"2,048 nodes",
-        2048,
-        &ends,
-        &weights,
-        &[0; 2048],
-        &turn,
-        2048,
-    );
-    loops(
-        b"2,049 nodes",
-        2049,
-        &ends,
-        &weights,
-        &[0; 2049],
-        &turn,
-        2049,
-    );
-    loops(
-        b"65,535 nodes",
-        65535,
-        &ends,
-        &weights,
-        &[0; 65535],
-        &turn,
-        65535,
-    );
-    loops(
-        b"potentials one short",
-        2048,
-        &ends,
-        &weights,
-        &[0; 2047],
-        &turn,
-        2048,
-    );
-    loops(
-        b"path one short",
-        2048,
-        &ends,
-        &weights,
-        &[0; 2048],
-        &turn,
-        2047,
-    );
+pub fn node_counts() {
+    sized(b"0 nodes", 0, &[0; 1], 0);
+    sized(b"2,048 nodes", 2048, &[0; 2048], 2048);
+    sized(b"2,049 nodes", 2049, &[0; 2049], 2049);
+    sized(b"65,535 nodes", 65535, &[0; 65535], 65535);
+    sized(b"potentials one short", 2048, &[0; 2047], 2048);
+    sized(b"path one short", 2048, &[0; 2048], 2047);
 }
 
-fn arc_counts() {
-    let potentials = [0i32; 1];
-    let turn = [0u8; 1];
-    loops(
-        b"8,192 arcs",
-        1,
-        &[0; 8192],
-        &[0; 8192],
-        &potentials,
-        &turn,
-        1,
-    );
-    loops(
-        b"8,193 arcs",
-        1,
-        &[0; 8193],
-        &[0; 8193],
-        &potentials,
-        &turn,
-        1,
-    );
-    loops(
-        b"weights one short",
-        1,
-        &[0; 8192],
-        &[0; 8191],
-        &potentials,
-        &turn,
-        1,
-    );
+// So many arcs, with one node and pattern 0.
+fn joined(name: &[u8], ends: &[u16], weights: &[u32]) {
+    loops(name, 1, ends, weights, &[0], &[0], 1);
 }
 
-fn patterns() {
-    let ends = [0u16; 1];
-    let weights = [0u32; 1];
-    let potentials = [0i32; 1];
-    loops(b"no entries", 1, &ends, &weights, &potentials, b"", 1);
-    loops(b"64 entries", 1, &ends, &weights, &potentials, &[1; 64], 1);
-    loops(b"65 entries", 1, &ends, &weights, &potentials, &[1; 65], 1);
-    loops(b"entry 2", 1, &ends, &weights, &potentials, &[0, 1, 2], 1);
+pub fn arc_counts() {
+    joined(b"8,192 arcs", &[0; 8192], &[0; 8192]);
+    joined(b"8,193 arcs", &[0; 8193], &[0; 8193]);
+    joined(b"weights one short", &[0; 8192], &[0; 8191]);
 }
 
-pub fn all() {
-    node_counts();
-    arc_counts();
-    patterns();
+// A pattern, with one node and one arc.
+fn turned(name: &[u8], pattern: &[u8]) {
+    loops(name, 1, &[0], &[0], &[0], pattern, 1);
+}
+
+pub fn patterns() {
+    turned(b"no entries", b"");
+    turned(b"64 entries", &[1; 64]);
+    turned(b"65 entries", &[1; 65]);
+    turned(b"entry 2", &[0, 1, 2]);
 }

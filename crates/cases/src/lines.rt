@@ -28,17 +28,12 @@ fn arc(words: &[u8], tail: u16, head: u16, weight: u32) {
     show::text(b"\n");
 }
 
-// A query's line: its trip, its cap if it has one, and its pattern.
-fn query(bytes: &[u8], start: u16, end: u16, cap: Cap) {
+// The kind of a query, with its cap if it has one.
+fn query(cap: Cap) {
     match cap {
-        Cap::Uncapped => show::say(b"04 query: ", start as u64),
-        Cap::AtMost(turns) => {
-            show::say(b"07 query, cap ", turns as u64);
-            show::say(b": ", start as u64);
-        }
+        Cap::Uncapped => show::text(b"04 query"),
+        Cap::AtMost(turns) => show::say(b"07 query, cap ", turns as u64),
     }
-    show::say(b" to ", end as u64);
-    pattern(bytes);
 }
 
 // The frame that a line spells, in words.
@@ -62,13 +57,18 @@ fn line(bytes: &[u8]) {
             end,
             cap,
             entries: _,
-        } => query(bytes, start, end, cap),
+        } => {
+            query(cap);
+            show::say(b": ", start as u64);
+            show::say(b" to ", end as u64);
+            pattern(bytes);
+        }
         Frame::Unsound => show::text(b"no sound frame\n"),
     }
 }
 
 // The input of docs/RULES.md, "District D5".
-fn district() {
+pub fn district() {
     line(b"0100050005");
     line(b"020000000100000001");
     line(b"020001000200000001");
@@ -85,7 +85,7 @@ fn district() {
 
 // The kinds that D5 has not, a closed link in both directions and its query with a cap, 2 and the greatest; the least
 // potential and the greatest; the digit `a`; and kinds of answers, which are no input.
-fn others() {
+pub fn others() {
     line(b"0500000001000F4240");
     line(b"070000000300020201");
     line(b"0700000003FFFF0201");
@@ -94,9 +94,4 @@ fn others() {
     line(b"840000000400000003");
     line(b"850001");
     line(b"FF0900000000");
-}
-
-pub fn all() {
-    district();
-    others();
 }

@@ -10,6 +10,9 @@ fn main() {
     searches::p_cases();
     searches::caps();
     searches::chain();
-    bounds::all();
-    lines::all();
+    bounds::node_counts();
+    bounds::arc_counts();
+    bounds::patterns();
+    lines::district();
+    lines::others();
 }

@@ -1,10 +1,10 @@
 // Searches: P1 to P12 (docs/RULES.md, "Cases"), and P1 to P4 at caps, each with its answer, its path, the tables that it leaves
-// and its answer lines; and the largest shortest length. The lent lists are longer than the node count, and hold what is no label, node or
-// state of these cases, so that an entry that was written where it may not be is seen.
+// and its answer lines; and the largest shortest length. P1 to P12 have a cap that no search reaches, and that length none. The
+// lent lists are longer than the node count, and hold what is no label, node or state of these cases, so that an entry that was
+// written where it may not be is seen.
 use crate::lines;
 use crate::show;
 use network::Answer;
-use network::Cap;
 use network::MOST_NODES;
 use network::MOST_WEIGHT;
 ghost use Prim.Native.Nat.{_≤_};
@@ -15,6 +15,9 @@ const OLD_LABEL: u32 = 77;
 const OLD_NODE: u16 = 77;
 
 const OLD_STATE: u8 = 77;
+
+// A cap that no search reaches, which is as good as none.
+const NO_CAP: u16 = 65535;
 
 // The entries of each lent list: three more than district D5 has nodes.
 const LENT: usize = 5 + 3;
@@ -63,77 +66,9 @@ fn written(a: Answer, count: u16) -> Counts {
     }
 }
 
-// The name of a case, with its cap if it has one.
-fn named(name: &[u8], cap: Cap) {
-    show::text(name);
-    match cap {
-        Cap::Uncapped => {}
-        Cap::AtMost(turns) => show::say(b", cap ", turns as u64),
-    }
-}
-
-// The query, with a turn cap or without.
-fn asked(
-    cap: Cap,
-    count: u16,
-    tails: &[u16],
-    heads: &[u16],
-    weights: &[u32],
-    forward: &[i32],
-    backward: &[i32],
-    start: u16,
-    end: u16,
-    pattern: &[u8],
-    start_labels: &mut [u32],
-    start_neighbours: &mut [u16],
-    end_labels: &mut [u32],
-    end_neighbours: &mut [u16],
-    states: &mut [u8],
-    path: &mut [u16],
-) -> Answer {
-    match cap {
-        Cap::Uncapped => search::query(
-            count,
-            tails,
-            heads,
-            weights,
-            forward,
-            backward,
-            start,
-            end,
-            pattern,
-            start_labels,
-            start_neighbours,
-            end_labels,
-            end_neighbours,
-            states,
-            path,
-        ),
-        Cap::AtMost(turns) => search::capped_query(
-            count,
-            tails,
-            heads,
-            weights,
-            forward,
-            backward,
-            start,
-            end,
-            pattern,
-            turns,
-            start_labels,
-            start_neighbours,
-            end_labels,
-            end_neighbours,
-            states,
-            path,
-        ),
-    }
-}
-
-// One case, with a turn cap or without: what it answers and what it leaves.
+// One case: what it answers at a cap and what it leaves.
 fn case(
     name: &[u8],
-    cap: Cap,
     count: u16,
     tails: &[u16],
     heads: &[u16],
@@ -143,6 +78,7 @@ fn case(
     start: u16,
     end: u16,
     pattern: &[u8],
+    cap: u16,
 ) {
     let mut start_labels = [OLD_LABEL; LENT];
     let mut start_neighbours = [OLD_NODE; LENT];
@@ -150,8 +86,7 @@ fn case(
     let mut end_neighbours = [OLD_NODE; LENT];
     let mut states = [OLD_STATE; LENT];
     let mut path = [OLD_NODE; LENT];
-    let a = asked(
-        cap,
+    let a = search::capped_query(
         count,
         tails,
         heads,
@@ -161,6 +96,7 @@ fn case(
         start,
         end,
         pattern,
+        cap,
         &mut start_labels,
         &mut start_neighbours,
         &mut end_labels,
@@ -169,8 +105,7 @@ fn case(
         &mut path,
     );
     let w = written(a, count);
-    named(name, cap);
-    show::answer(a);
+    show::answer(name, a);
     show::nodes(b"  path:", &path, w.path);
     show::labels(b"  start labels:", &start_labels, w.tables);
     show::nodes(b"  start neighbours:", &start_neighbours, w.tables);
@@ -181,10 +116,9 @@ fn case(
 }
 
 // A query in district D5.
-fn in_d5(name: &[u8], cap: Cap, start: u16, end: u16, pattern: &[u8]) {
+fn in_d5(name: &[u8], start: u16, end: u16, pattern: &[u8], cap: u16) {
     case(
         name,
-        cap,
         5,
         &[0, 1, 2, 0, 4],
         &[1, 2, 3, 4, 3],
@@ -194,71 +128,47 @@ fn in_d5(name: &[u8], cap: Cap, start: u16, end: u16, pattern: &[u8]) {
         start,
         end,
         pattern,
+        cap,
     );
 }
 
-// P1 to P4, which are in district D5.
-fn p1(cap: Cap) {
-    in_d5(b"P1", cap, 0, 3, &[0, 1]);
-}
-
-fn p2(cap: Cap) {
-    in_d5(b"P2", cap, 0, 3, &[1]);
-}
-
-fn p3(cap: Cap) {
-    in_d5(b"P3", cap, 2, 2, &[0, 1]);
-}
-
-fn p4(cap: Cap) {
-    in_d5(b"P4", cap, 3, 0, &[0, 1]);
-}
-
-// P5 to P10: two nodes, one arc from 0 to 1, a query from 0 to 1 and pattern 0.
-fn on_one_arc(name: &[u8], weight: u32, forward: [i32; 2], backward: [i32; 2]) {
+// P5 to P10: two nodes, one arc from 0 to 1, a query from 0 to 1 and pattern 0; h of both nodes, and k, the same for both.
+fn on_one_arc(name: &[u8], weight: u32, first: i32, second: i32, both: i32) {
     case(
         name,
-        Cap::Uncapped,
         2,
         &[0],
         &[1],
         &[weight],
-        &forward,
-        &backward,
+        &[first, second],
+        &[both; 2],
         0,
         1,
         &[0],
+        NO_CAP,
     );
+}
+
+// P1 to P10.
+fn first_ten() {
+    in_d5(b"P1", 0, 3, &[0, 1], NO_CAP);
+    in_d5(b"P2", 0, 3, &[1], NO_CAP);
+    in_d5(b"P3", 2, 2, &[0, 1], NO_CAP);
+    in_d5(b"P4", 3, 0, &[0, 1], NO_CAP);
+    on_one_arc(b"P5", 1, 1, 0, 0);
+    on_one_arc(b"P6", 1, 2, 0, 0);
+    on_one_arc(b"P7", 1000000, 0, 0, 0);
+    on_one_arc(b"P8", 1000001, 0, 0, 0);
+    on_one_arc(b"P9", 1, -2047000000, -2047000000, -2047000000);
+    on_one_arc(b"P10", 1, -2047000001, 0, 0);
 }
 
 // P1 to P12.
 pub fn p_cases() {
-    p1(Cap::Uncapped);
-    p2(Cap::Uncapped);
-    p3(Cap::Uncapped);
-    p4(Cap::Uncapped);
-    on_one_arc(b"P5", 1, [1, 0], [0, 0]);
-    on_one_arc(b"P6", 1, [2, 0], [0, 0]);
-    on_one_arc(b"P7", 1000000, [0, 0], [0, 0]);
-    on_one_arc(b"P8", 1000001, [0, 0], [0, 0]);
-    on_one_arc(b"P9", 1, [-2047000000; 2], [-2047000000; 2]);
-    on_one_arc(b"P10", 1, [-2047000001, 0], [0, 0]);
-    case(
-        b"P11",
-        Cap::Uncapped,
-        1,
-        &[],
-        &[],
-        &[],
-        &[0],
-        &[0],
-        0,
-        0,
-        &[0],
-    );
+    first_ten();
+    case(b"P11", 1, &[], &[], &[], &[0], &[0], 0, 0, &[0], NO_CAP);
     case(
         b"P12",
-        Cap::Uncapped,
         2,
         &[0],
         &[1],
@@ -268,25 +178,24 @@ pub fn p_cases() {
         2,
         1,
         &[],
+        NO_CAP,
     );
 }
 
-// P1 at each cap from 0 to one more than the turns that it takes.
-fn p1_at_caps() {
-    let mut cap: u16 = 0;
-    while cap < 7 {
-        p1(Cap::AtMost(cap));
-        cap += 1;
-    }
-}
-
-// Those, P2 at a cap where the excess is 0, P3 and P4 at cap 0, and P4 at a cap that its search ends within.
+// P1 at each cap from 0 to one more than the turns that it takes, P2 at a cap where the excess is 0, P3 and P4 at cap 0, and P4
+// at a cap that its search ends within.
 pub fn caps() {
-    p1_at_caps();
-    p2(Cap::AtMost(4));
-    p3(Cap::AtMost(0));
-    p4(Cap::AtMost(0));
-    p4(Cap::AtMost(1));
+    in_d5(b"P1, cap 0", 0, 3, &[0, 1], 0);
+    in_d5(b"P1, cap 1", 0, 3, &[0, 1], 1);
+    in_d5(b"P1, cap 2", 0, 3, &[0, 1], 2);
+    in_d5(b"P1, cap 3", 0, 3, &[0, 1], 3);
+    in_d5(b"P1, cap 4", 0, 3, &[0, 1], 4);
+    in_d5(b"P1, cap 5", 0, 3, &[0, 1], 5);
+    in_d5(b"P1, cap 6", 0, 3, &[0, 1], 6);
+    in_d5(b"P2, cap 4", 0, 3, &[1], 4);
+    in_d5(b"P3, cap 0", 2, 2, &[0, 1], 0);
+    in_d5(b"P4, cap 0", 3, 0, &[0, 1], 0);
+    in_d5(b"P4, cap 1", 3, 0, &[0, 1], 1);
 }
 
 // Nodes in rising order from the first, 0 or 1.
@@ -342,8 +251,7 @@ pub fn chain() {
         &mut states,
         &mut path,
     );
-    show::text(b"chain of 2,048 nodes");
-    show::answer(a);
+    show::answer(b"chain of 2,048 nodes", a);
     show::say(b"  path nodes in rising order: ", in_order(&path) as u64);
     show::text(b"\n");
 }

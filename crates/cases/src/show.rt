@@ -50,8 +50,9 @@ pub fn verdict(name: &[u8], v: Verdict) {
     }
 }
 
-// An answer with its figures, after a name, to the end of the line.
-pub fn answer(a: Answer) {
+// An answer with its figures, on one line. Length and excess of a provisional one stand in its answer line.
+pub fn answer(name: &[u8], a: Answer) {
+    text(name);
     match a {
         Answer::Route {
             length,
@@ -68,14 +69,12 @@ pub fn answer(a: Answer) {
         }
         Answer::Refused(cause) => refusal(cause),
         Answer::Provisional {
-            length,
-            excess,
-            nodes,
+            length: _,
+            excess: _,
+            nodes: _,
             figures: f,
         } => {
-            say(b": provisional, length ", length as u64);
-            say(b", excess ", excess as u64);
-            say(b", path nodes ", nodes as u64);
+            text(b": provisional");
             figures(f);
         }
         Answer::Undecided(f) => {
