@@ -298,7 +298,7 @@ whole-files =
 -- ---- queries at a cap, in district D5
 abbrev capped-files : List Case
 capped-files =
-    -- P1 at caps 5, 0, 1, 2, 3, 4 and 65,535, one after the other. Who forgets step 2 after the last allowed turn answers cap 5 by
+    -- P1 at caps 5, 0, 1, 2, 3, 4 and 6, one after the other. Who forgets step 2 after the last allowed turn answers cap 5 by
     -- a provisional, who goes on with the tables of the query before answers cap 0 by a route, who makes a turn more answers cap 1
     -- by a provisional, and who shows no path with a provisional leaves out three lines
     file
@@ -309,7 +309,7 @@ capped-files =
     ∷ at-cap "0002"
     ∷ at-cap "0003"
     ∷ at-cap "0004"
-    ∷ at-cap "FFFF"
+    ∷ at-cap "0006"
     ∷ []))
     ("810000000300040005000200010002"
     ∷ "820000000100020003"
