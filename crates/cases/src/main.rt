@@ -1,6 +1,6 @@
 // The cases (docs/RULES.md, "Cases"), run: P1 to P12, cases at caps, those that are run and not proved, and lines of district
-// frames. What the program writes is compared with the file `stdout`; what that says of P1 to P12 an independent program
-// reckons too.
+// frames. What the program writes is compared with the file `stdout`; what that says of P1 to P12 and of caps an independent
+// program reckons too.
 mod bounds;
 mod lines;
 mod searches;
