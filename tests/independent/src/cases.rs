@@ -100,15 +100,14 @@ fn list(title: &str, written: &[i64]) -> String {
     text + "\n"
 }
 
-/// The answer, and the figures of its search, whether its lines have them or not.
+/// The answer, and the figures of its search, whether its lines have them or not. Length and excess of a provisional one
+/// stand in its answer line.
 fn words(outcome: &Outcome) -> String {
     let said = match &outcome.answer {
         Answer::Refused(refusal) => return format!("refused, {}", frames::refusal_line(*refusal).trim_end()),
         Answer::Route { length, path, .. } => format!("route, length {length}, path nodes {}", path.len()),
         Answer::NoRoute { .. } => "no route".into(),
-        Answer::Provisional { length, excess, path } => {
-            format!("provisional, length {length}, excess {excess}, path nodes {}", path.len())
-        }
+        Answer::Provisional { .. } => "provisional".into(),
         Answer::Undecided { .. } => "undecided".into(),
     };
     let figures = outcome.tables.as_ref().map(Search::figures).unwrap_or_default();
