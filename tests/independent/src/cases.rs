@@ -100,8 +100,8 @@ fn list(title: &str, written: &[i64]) -> String {
     text + "\n"
 }
 
-/// The answer, and the figures of its search, whether its lines have them or not; length and excess of a provisional one are
-/// left to its lines.
+/// The answer, and the figures of its search, whether its lines have them or not. Length and excess of a provisional one
+/// stand in its answer line.
 fn words(outcome: &Outcome) -> String {
     let said = match &outcome.answer {
         Answer::Refused(refusal) => return format!("refused, {}", frames::refusal_line(*refusal).trim_end()),
