@@ -1,6 +1,6 @@
 // When a search with a cap on its turns stops, and what it then answers (docs/RULES.md, "Capped queries"). It stands by itself,
 // with numbers by value and no lists, so that a wrong stop is refused in seconds. A search without a cap is one with a cap that
-// it cannot reach.
+// always suffices.
 ghost use mathlib.Core.Path.{_≡_};
 ghost use mathlib.Core.Bool.{true};
 ghost use Prim.Native.Nat.{_<_, _^_};

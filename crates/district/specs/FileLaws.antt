@@ -26,7 +26,8 @@ use Rattle.nba.specs.Result.{pathOf, figuresIn, excess, refusedOr, foundAt, ans
 use Rattle.nba.specs.Why.Theorems.{path-fits-at}
 use Rattle.frames.specs.AnswerLines.{answerLines}
 use Rattle.frames.specs.AnswerLaws.{length-refused, length-no-route, length-route, length-provisional, length-undecided}
-use Rattle.district.specs.CappedLaws.{capped-lines, by-found}
+use Rattle.nba.specs.Why.ReadLaws.{by-found}
+use Rattle.district.specs.CappedLaws.{capped-lines}
 use Rattle.district.specs.StepCases.{by-line, by-broken, by-byte, by-end}
 use Rattle.district.specs.File.{Told, File, FileStep, step, beginning, refused, taken, workRoom, queryLines, takeByte, endOfInput, feed, answerFrom}
 use Rattle.district.specs.Reader.{mostBytes, refusalBytes}
@@ -74,10 +75,10 @@ found-short q sound cap =
     let nodes : length (take (length path) path) ≤ length path = rw length-take (omega arith) in
     let few : present (st .best) ≡ true → length path ≤ mostNodes = λ here. omega (arith, path-fits-at sound cap (ltb-true (st .best) missing here) .few, sound .sized .few-nodes) in
     by-found q cap (λ (a : Answer). length (answerLines a path) ≤ mostBytes)
-    (λ here. omega (arith, length-route (st .best) (length path) f path, nodes, few here))
-    (λ here. omega (arith, length-provisional (st .best) (excess q st) (length path) f path, nodes, few here))
-    (λ _. omega (arith, length-no-route f path))
-    (λ _. omega (arith, length-undecided f path))
+    (λ t here. omega (arith, length-route (st .best) (length path) f path, nodes, few here))
+    (λ t here. omega (arith, length-provisional (st .best) (excess q st) (length path) f path, nodes, few here))
+    (λ t h. omega (arith, length-no-route f path))
+    (λ t h. omega (arith, length-undecided f path))
 
 capped-short : (q : Query) (cap : ℕ) → length (queryLines (AtMost cap) q) ≤ mostBytes
 unfolding queryLines answerToAt

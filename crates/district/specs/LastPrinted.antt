@@ -33,7 +33,8 @@ use Rattle.frames.specs.Frame.{frameOf, patternOf}
 use Rattle.frames.specs.AnswerLines.{lineFeed, lineOf, widthsOf, answerLine, pathLine, answerLines}
 use Rattle.frames.specs.AnswerLaws.{number-below-256, answer-determined}
 use Rattle.district.specs.File.{Told, nothingTold, lastLine, workRoom, queryLines, queryOn, answerFrom}
-use Rattle.district.specs.CappedLaws.{capped-lines, by-found}
+use Rattle.nba.specs.Why.ReadLaws.{by-found}
+use Rattle.district.specs.CappedLaws.{capped-lines}
 use Rattle.district.specs.Lines.{linesOf, withoutFeed, toldWith, printedFor, outcomeOf}
 use Rattle.district.specs.FileGiven.{lineCount, frameAfter, toldByLines, toldAfter, printedByLines, lastPrinted, TakenAfter, TakenWhole, ComesTo, QueryNumber}
 use Rattle.district.specs.FileGivenLaws.{GivenByCause, file-refused-exactly-when, file-accepted-exactly-when, file-taken-whole, file-refused-prints, file-accepted-prints}
@@ -148,10 +149,10 @@ unfolding spelled
 found-none q cap path =
     let on-path : NoFiles (pathText (take (length (pathOf q (stateAt q cap))) path) ∷ []) = one-none (kind-none 130 _ (omega arith)) nothing-none in
     by-found q cap (λ (a : Answer). NoFiles (texts a path))
-    (λ _. one-none (kind-none 129 _ (omega arith)) on-path)
-    (λ _. one-none (kind-none 132 _ (omega arith)) on-path)
-    (λ _. one-none (kind-none 128 _ (omega arith)) nothing-none)
-    (λ _. one-none (kind-none 133 _ (omega arith)) nothing-none)
+    (λ t h. one-none (kind-none 129 _ (omega arith)) on-path)
+    (λ t h. one-none (kind-none 132 _ (omega arith)) on-path)
+    (λ t h. one-none (kind-none 128 _ (omega arith)) nothing-none)
+    (λ t h. one-none (kind-none 133 _ (omega arith)) nothing-none)
 
 -- the answer of a query whose refusals are 4, 5, 7, 8 or 9
 answer-none : (q : Query) (cap : ℕ) (path : List ℕ) → ((c : Cause) → queryVerdict q workRoom ≡ Refused c → QueryNumber (numberOf c)) → NoFiles (texts (answerToAt q cap workRoom) path)

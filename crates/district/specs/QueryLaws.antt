@@ -36,7 +36,8 @@ use Rattle.district.specs.declared.Reader.{Reader}
 use Rattle.district.specs.File.{workRoom, queryLines, queryOn, withQuery, wrong, taken, takeQuery}
 use Rattle.district.specs.Reader.{Lists as DistrictLists, toldBy, fileOf, Counted, Roomy, Kept}
 use Rattle.district.specs.Inner.{AllRead, Known}
-use Rattle.district.specs.CappedLaws.{capped-lines, by-found}
+use Rattle.nba.specs.Why.ReadLaws.{by-found}
+use Rattle.district.specs.CappedLaws.{capped-lines}
 use Rattle.district.specs.ReaderLaws.{with-all}
 
 module _ (q : Query) (cap : ℕ) where
@@ -54,10 +55,10 @@ module _ (q : Query) (cap : ℕ) where
       let n : ℕ = length (pathOf q (stateAt q cap)) in
       let st : State = stateAt q cap in
       by-found q cap (λ (a : Answer). answerLines a (atFront (shownPath q st) old) ≡ answerLines a (pathOf q st))
-      (λ here. ap (λ (p : List ℕ). answerLine (Route (st .best) n (figuresIn (st .states))) ++ pathLine p) (path-in-front old here))
-      (λ here. ap (λ (p : List ℕ). answerLine (Provisional (st .best) (excess q st) n (figuresIn (st .states))) ++ pathLine p) (path-in-front old here))
-      (λ _. refl)
-      (λ _. refl)
+      (λ t here. ap (λ (p : List ℕ). answerLine (Route (st .best) n (figuresIn (st .states))) ++ pathLine p) (path-in-front old here))
+      (λ t here. ap (λ (p : List ℕ). answerLine (Provisional (st .best) (excess q st) n (figuresIn (st .states))) ++ pathLine p) (path-in-front old here))
+      (λ t h. refl)
+      (λ t h. refl)
 
   searched-lines : (l : LentLists) → answerLines (foundAt q cap) (listsAt q cap l .path) ≡ answerLines (foundAt q cap) (pathOf q (stateAt q cap))
   unfolding listsAt

@@ -11,18 +11,16 @@ use Rattle.network.specs.declared.Cause.{Cause}
 use Rattle.network.specs.declared.Figures.{Figures}
 use Rattle.network.specs.declared.Verdict.{Verdict}
 use Rattle.network.specs.declared.Verdict.the-variants.{Accepted, Refused as Refusal}
-use Rattle.network.specs.CaseSplit.{cases}
 use Rattle.network.specs.Given.{Sound}
 use Rattle.network.specs.SoundLaws.{accepted-sound}
 use Rattle.network.specs.Query.{Query}
 use Rattle.network.specs.Refusal.{queryVerdict}
-use Rattle.nba.specs.State.{present}
 use Rattle.nba.specs.Search.{stateAt}
-use Rattle.nba.specs.Result.{figuresIn, answerAt, refusedOr, over, unendedAt, foundAt, answerToAt}
+use Rattle.nba.specs.Result.{figuresIn, refusedOr, foundAt, answerToAt}
 use Rattle.nba.specs.Demands.{pathAt, IsUndecided, undecided-yet}
-use Rattle.nba.specs.Why.Capped.{honest, decided-stays, never-taken-back, demand-3-turns-at, capped-at-nodes, over-is-end}
-use Rattle.nba.specs.Why.ReadLaws.{provisional-read, Decided, route-decided, none-decided, decided-over}
-use Rattle.nba.specs.Why.Theorems.{demand-3-opened-at}
+use Rattle.nba.specs.Why.Capped.{honest, decided-stays, never-taken-back, capped-at-nodes, over-is-end}
+use Rattle.nba.specs.Why.ReadLaws.{by-found, provisional-read, Decided, route-decided, none-decided, decided-over}
+use Rattle.nba.specs.Why.Theorems.{demand-3-turns-at, demand-3-opened-at}
 use Rattle.search.specs.Promise.{LentLists, lengths, listsAt, Left, left, searchLeavesAt, verdictLeaves, queried, queriedAt}
 use Rattle.search.specs.Demands.{Demand2, Demand3, HasFigures, of-a-route, of-no-route, QueryKept, ShowsFigures, of-ended, of-provisional, of-undecided, HonestAnswer, NotTakenBack, Demand3AtCap, CappedKept}
 use Rattle.search.specs.DemandLaws.{same-left, by-verdict, accepted-leaves, accepted-if, demand-1-kept, path-shown, state-shown, label-shown, query-kept}
@@ -69,12 +67,12 @@ same-at-caps q c d l e = rw e
 
 -- the search's answer at a cap shows the figures of its state there, so it is no refusal
 shows-at : (q : Query) (cap : ℕ) → ShowsFigures (foundAt q cap) (figuresIn (stateAt q cap .states))
-unfolding foundAt answerAt unendedAt
 shows-at q cap =
-    let Shows : Answer → Type 0 = λ a. ShowsFigures a (figuresIn (stateAt q cap .states)) in
-    cases Shows (over q (stateAt q cap))
-    (λ h. cases Shows (present (stateAt q cap .best)) (λ i. of-ended of-a-route) (λ i. of-ended of-no-route))
-    (λ h. cases Shows (present (stateAt q cap .best)) (λ i. of-provisional) (λ i. of-undecided))
+    by-found q cap (λ a. ShowsFigures a (figuresIn (stateAt q cap .states)))
+    (λ t h. of-ended of-a-route)
+    (λ t h. of-provisional)
+    (λ t h. of-ended of-no-route)
+    (λ t h. of-undecided)
 
 -- an answer with figures is no refusal, and it has no others
 no-refusal : {a : Answer} {f : Figures} {c : Cause} → ShowsFigures a f → a ≡ Refused c → ⊥

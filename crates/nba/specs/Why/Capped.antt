@@ -22,10 +22,10 @@ use Rattle.network.specs.CaseSplit.{by-eq, by-lt, by-bool, true≢false}
 use Rattle.nba.specs.State.{missing, State}
 use Rattle.nba.specs.Search.{target, ended, stateAt, endState}
 use Rattle.nba.specs.Result.{pathOf, figuresIn, answerAt, found, answerTo, excess, over, foundAt, answerToAt, answerUnder, turnsGiven}
-use Rattle.nba.specs.Demands.{WalkOfLength, TrueLength, Honest, NoWorse, a-route, provisional, IsUndecided, undecided-yet, NeverTakenBack, Demand3TurnsAt}
+use Rattle.nba.specs.Demands.{WalkOfLength, TrueLength, Honest, NoWorse, a-route, provisional, IsUndecided, undecided-yet, NeverTakenBack}
 use Rattle.nba.specs.Why.ByMark.{afterTurnsByMark}
 use Rattle.nba.specs.Why.StateLaws.{both-sides}
-use Rattle.nba.specs.Why.CodeLaws.{rests-by-mark, stays-ended-by-mark}
+use Rattle.nba.specs.Why.CodeLaws.{rests-by-mark}
 use Rattle.nba.specs.Why.Measures.{potential, floorOf}
 use Rattle.nba.specs.Why.MeasureLaws.{along-walk}
 use Rattle.nba.specs.Why.Moved.{Turned, turned-by}
@@ -33,13 +33,13 @@ use Rattle.nba.specs.Why.MovedLaws.{their-floor}
 use Rattle.nba.specs.Why.UndecidedWalk.{undecided-walk, first-undecided}
 use Rattle.nba.specs.Why.Ways.{walk-back, Way, short, way}
 use Rattle.nba.specs.Why.Invariant.{Invariant}
-use Rattle.nba.specs.Why.RunLaws.{orderly, invariant, made, turns-figure, turn-leaves, turned-after, left-once}
+use Rattle.nba.specs.Why.RunLaws.{orderly, invariant, turned-after}
 use Rattle.nba.specs.Why.PathLaws.{joined-is, joined-walk}
 use Rattle.nba.specs.Why.ShortWalk.{walk-beside}
-use Rattle.nba.specs.Why.ByMarkLaws.{same-search, same-at}
+use Rattle.nba.specs.Why.ByMarkLaws.{same-at}
 use Rattle.nba.specs.Why.EndLaws.{route-answered, at-cap, ended-stays, over-at-end, least-at-end, path-real, path-once}
 use Rattle.nba.specs.Why.ExcessLaws.{floorAbove, excess-natural}
-use Rattle.nba.specs.Why.ReadLaws.{ReadAt, ended-with, ended-without, going-with, going-without, over-found, undecided-found, read-at, provisional-read, Decided, route-decided, none-decided, decided-over, still-going}
+use Rattle.nba.specs.Why.ReadLaws.{ReadAt, ended-with, ended-without, going-with, going-without, over-found, read-at, provisional-read, Decided, route-decided, none-decided, decided-over, going-apart}
 
 -- ---- honest
 -- a walk is no shorter than the best length, or the side's floor less its potential of its target is no more than it
@@ -70,7 +70,7 @@ module _ {q : Query} (sound : Sound q) where
   -- before the end no walk is shorter than the best length by more than the excess
   going-least : (cap : ℕ) → over q (stateAt q cap) ≡ false → (m : ℕ) → WalkOfLength q m → stateAt q cap .best ≤ m + excess q (stateAt q cap)
   going-least cap h m p =
-      let d = still-going sound cap h .apart in
+      let d = going-apart q cap h in
       let r = walk-beside sound (sound .source-in start) p in
       rw (same-at sound d cap) (omega (arith, r .no-longer, within-excess sound (invariant sound d cap) (r .total) (omega (arith, r .small)) (r .walk)))
 
@@ -153,7 +153,7 @@ module _ {q : Query} (sound : Sound q) where
 
   further : (c d : ℕ) → c ≤ d → over q (stateAt q c) ≡ false → Further c d
   further c d l h =
-      let f = still-going sound c h .apart in
+      let f = going-apart q c h in
       rw-further (same-at sound f c) (same-at sound f d) (better sound f c d l .best) (better-excess sound f c d l)
     where
       rw-further : {a b : State} → stateAt q c ≡ a → stateAt q d ≡ b → b .best ≤ a .best → excess q b ≤ excess q a → Further c d
@@ -188,6 +188,15 @@ module _ {q : Query} (sound : Sound q) where
       by (going-with t h r) = absurd (let z : _≡_ {A = ℕ} 0 1 = cc in omega arith)
       by (going-without t h r) = (t, h)
 
+  undecided-here : (c : ℕ) → missing ≤ stateAt q c .best → over q (stateAt q c) ≡ false → IsUndecided (foundAt q c)
+  undecided-here c b going = by (read-at q c)
+    where
+      by : ReadAt q (stateAt q c) (foundAt q c) → IsUndecided (foundAt q c)
+      by (ended-with t h r) = absurd (true≢false t going)
+      by (ended-without t h r) = absurd (true≢false t going)
+      by (going-with t h r) = absurd (omega arith)
+      by (going-without t h r) = rw r undecided-yet
+
   pub never-taken-back : (c d : ℕ) → c ≤ d → NeverTakenBack q c d
   never-taken-back c d i = record {
     route = λ {l} {n} {f} e. same-found c d (decided-over q c route-decided e) (decided-stays c d i route-decided e) ∙ e;
@@ -196,27 +205,8 @@ module _ {q : Query} (sound : Sound q) where
     no-worse = λ {l} {x} {n} {f} e. let r = provisional-read q c e in worse-not c d i (r .length-is) (r .excess-is) (r .here) (r .going);
     not-undone = λ u. let r = undecided-read d u refl in by-bool (over q (stateAt q c))
         (λ t. absurd (true≢false (ap (over q) (ended-stays sound c d i t) ∙ t) (r .0)))
-        (λ t. let far = further c d i t in rw (undecided-found q c t (omega (arith, far .best, r .1))) undecided-yet);
+        (λ t. undecided-here c (omega (arith, further c d i t .best, r .1)) t);
   }
-
-  -- ---- demand 3 before the end
-  pub demand-3-turns-at : q .start ≢ q .end → (cap : ℕ) → Demand3TurnsAt q cap (figuresIn (stateAt q cap .states) .turns)
-  demand-3-turns-at d cap =
-      let m = made sound cap in
-      let same = same-search sound d in
-      let t = m .turns in
-      let there : afterTurnsByMark q cap ≡ afterTurnsByMark q t = by-lt t cap (λ l. stays-ended-by-mark q t cap (m .fewer l) (omega arith)) (λ l. let e : cap ≡ t = omega (arith, m .within-cap) in ap (afterTurnsByMark q) e) in
-      let at = same-at sound d cap ∙ there in
-      let turns : figuresIn (stateAt q cap .states) .turns ≡ t = ap (λ (st : State). figuresIn (st .states) .turns) at ∙ omega (arith, turns-figure sound (afterTurnsByMark q t) (orderly sound t .tabled .states-long), m .left-are-turns) in
-      rw turns (record {
-        within-cap = m .within-cap;
-        few = omega (arith, m .left-are-turns);
-        going = λ i l. rw (same i) (m .going i l);
-        one-leaves = λ i l. rw (same i, same (suc i)) (turn-leaves sound i (m .going i l));
-        at-cap = at ∙ sym (same t);
-        fewer = λ l. rw (same t) (m .fewer l);
-        once = λ v i j. rw (same i, same j) (left-once sound v i j);
-      })
 
   -- ---- one search, one answer
   -- the uncapped answer is the capped one at a cap of as many turns as there are nodes

@@ -143,7 +143,7 @@ module _ {q : Query} (sound : Sound q) where
   over-at-once : q .start ≡ q .end → (st : State) → over q st ≡ true
   over-at-once e st = rw (eq-eqb (q .start) (q .end) e)
 
-  over-searched : q .start ≢ q .end → (st : State) → over q st ≡ ended q st
+  pub over-searched : q .start ≢ q .end → (st : State) → over q st ≡ ended q st
   over-searched d st = rw (ne-eqb (q .start) (q .end) d)
 
   -- the state is the same at every larger cap

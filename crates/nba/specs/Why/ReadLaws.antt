@@ -1,27 +1,22 @@
 -- How an answer at a cap (docs/RULES.md, "Capped queries") reads the state there: it is one of four, by whether the search is over and
 -- whether there is a best length. Assumes nothing.
-use mathlib.Core.Path.{_≡_, sym, ap, _∙_}
+use mathlib.Core.Path.{_≡_, refl}
 use mathlib.Core.Logic.{_≢_}
 use mathlib.Core.Bool.{true, false}
 use Prim.Native.Nat.{ℕ, _≤_, _<_}
 use native.Mathlib.Omega.{arith}
 use lib.Dec.{eqb}
 use lib.ListN.{length}
-use borrow.Author.Tests.{lt-ltb, le-ltb, eqb-false}
+use borrow.Author.Tests.{ltb-true, ltb-false, eqb-false}
 use Rattle.network.specs.declared.Figures.{Figures}
 use Rattle.network.specs.declared.Answer.{Answer}
 use Rattle.network.specs.declared.Answer.the-variants.{Route, NoRoute, Provisional, Undecided}
-use Rattle.network.specs.Network.{start, end}
 use Rattle.network.specs.Query.{Query}
-use Rattle.network.specs.Given.{Sound}
-use Rattle.network.specs.CaseSplit.{by-lt, by-bool, neither-true}
-use Rattle.nba.specs.State.{missing, State}
+use Rattle.network.specs.CaseSplit.{cases, neither-true}
+use Rattle.nba.specs.State.{present, missing, State}
 use Rattle.nba.specs.Search.{ended, stateAt}
-use Rattle.nba.specs.Result.{pathOf, figuresIn, answerAt, excess, over, unendedAt, foundAt}
+use Rattle.nba.specs.Result.{answerAt, over, unendedAt, pathOf, figuresIn, excess, foundAt}
 use Rattle.nba.specs.Demands.{pathAt}
-use Rattle.nba.specs.Why.ByMark.{afterTurnsByMark}
-use Rattle.nba.specs.Why.ByMarkLaws.{same-at}
-use Rattle.nba.specs.Why.EndLaws.{route-answered, no-route-answered}
 
 -- what is shown with a provisional answer: the search has not ended, and its best length is present
 pub record ProvisionalRead (q : Query) (st : State) (l x n : ℕ) : Type 0 where
@@ -38,34 +33,31 @@ pub data ReadAt (q : Query) (st : State) (a : Answer) : Type 0 where
   going-with : over q st ≡ false → st .best < missing → a ≡ Provisional (st .best) (excess q st) (length (pathOf q st)) (figuresIn (st .states)) → ReadAt q st a
   going-without : over q st ≡ false → missing ≤ st .best → a ≡ Undecided (figuresIn (st .states)) → ReadAt q st a
 
-pub over-found : (q : Query) (cap : ℕ) → over q (stateAt q cap) ≡ true → foundAt q cap ≡ answerAt q (stateAt q cap)
-unfolding foundAt
-over-found q cap h = rw h
-
-going-found : (q : Query) (cap : ℕ) → over q (stateAt q cap) ≡ false → foundAt q cap ≡ unendedAt q (stateAt q cap)
-unfolding foundAt
-going-found q cap h = rw h
-
-pub provisional-found : (q : Query) (cap : ℕ) → over q (stateAt q cap) ≡ false → stateAt q cap .best < missing
-    → foundAt q cap ≡ Provisional (stateAt q cap .best) (excess q (stateAt q cap)) (length (pathAt q cap)) (figuresIn (stateAt q cap .states))
-unfolding unendedAt
-provisional-found q cap g h = going-found q cap g ∙ rw (lt-ltb (stateAt q cap .best) missing h)
-
-pub undecided-found : (q : Query) (cap : ℕ) → over q (stateAt q cap) ≡ false → missing ≤ stateAt q cap .best
-    → foundAt q cap ≡ Undecided (figuresIn (stateAt q cap .states))
-unfolding unendedAt
-undecided-found q cap g h = going-found q cap g ∙ rw (le-ltb (stateAt q cap .best) missing h)
+-- what holds of each of the four holds of the answer
+pub by-found : (q : Query) (cap : ℕ) (P : Answer → Type 0)
+    → (over q (stateAt q cap) ≡ true → present (stateAt q cap .best) ≡ true → P (Route (stateAt q cap .best) (length (pathAt q cap)) (figuresIn (stateAt q cap .states))))
+    → (over q (stateAt q cap) ≡ false → present (stateAt q cap .best) ≡ true → P (Provisional (stateAt q cap .best) (excess q (stateAt q cap)) (length (pathAt q cap)) (figuresIn (stateAt q cap .states))))
+    → (over q (stateAt q cap) ≡ true → present (stateAt q cap .best) ≡ false → P (NoRoute (figuresIn (stateAt q cap .states))))
+    → (over q (stateAt q cap) ≡ false → present (stateAt q cap .best) ≡ false → P (Undecided (figuresIn (stateAt q cap .states))))
+    → P (foundAt q cap)
+unfolding foundAt answerAt unendedAt
+by-found q cap P on-route on-provisional on-no-route on-undecided =
+    let st = stateAt q cap in
+    cases P (over q st) (λ t. cases P (present (st .best)) (on-route t) (on-no-route t)) (λ t. cases P (present (st .best)) (on-provisional t) (on-undecided t))
 
 pub read-at : (q : Query) (cap : ℕ) → ReadAt q (stateAt q cap) (foundAt q cap)
 read-at q cap =
-    let st = stateAt q cap in
-    by-bool (over q st)
-    (λ t. by-lt (st .best) missing
-    (λ h. ended-with t h (over-found q cap t ∙ route-answered q st h))
-    (λ h. ended-without t h (over-found q cap t ∙ no-route-answered q st h)))
-    (λ t. by-lt (st .best) missing
-    (λ h. going-with t h (provisional-found q cap t h))
-    (λ h. going-without t h (undecided-found q cap t h)))
+    let b = stateAt q cap .best in
+    by-found q cap (ReadAt q (stateAt q cap))
+    (λ t h. ended-with t (ltb-true b missing h) refl)
+    (λ t h. going-with t (ltb-true b missing h) refl)
+    (λ t h. ended-without t (ltb-false b missing h) refl)
+    (λ t h. going-without t (ltb-false b missing h) refl)
+
+-- where the search is over, the answer is read as at the end
+pub over-found : (q : Query) (cap : ℕ) → over q (stateAt q cap) ≡ true → foundAt q cap ≡ answerAt q (stateAt q cap)
+unfolding foundAt
+over-found q cap h = rw h
 
 pub provisional-read : (q : Query) (cap : ℕ) {l x n : ℕ} {f : Figures} → foundAt q cap ≡ Provisional l x n f → ProvisionalRead q (stateAt q cap) l x n
 provisional-read q cap {l} {x} {n} {f} e = by (read-at q cap)
@@ -92,12 +84,6 @@ decided-over q cap k e = by k e (read-at q cap)
     by route-decided e (going-without t h r) = absurd (let z : _≡_ {A = ℕ} 0 1 = cc in omega arith)
     by none-decided e (going-without t h r) = absurd (let z : _≡_ {A = ℕ} 0 1 = cc in omega arith)
 
--- a search that is not over: start and end are different, and step 2 does not end it
-pub record Going (q : Query) (cap : ℕ) : Type 0 where
-  pub apart : q .start ≢ q .end
-  pub goes : ended q (afterTurnsByMark q cap) ≡ false
-
-pub still-going : {q : Query} → Sound q → (cap : ℕ) → over q (stateAt q cap) ≡ false → Going q cap
-still-going {q} sound cap h =
-    neither-true (eqb (q .start) (q .end)) (ended q (stateAt q cap)) h
-    (λ a b. let d = eqb-false (q .start) (q .end) a in record { apart = d; goes = ap (ended q) (sym (same-at sound d cap)) ∙ b })
+-- a search that is not over has a start and an end that are different
+pub going-apart : (q : Query) (cap : ℕ) → over q (stateAt q cap) ≡ false → q .start ≢ q .end
+going-apart q cap h = neither-true (eqb (q .start) (q .end)) (ended q (stateAt q cap)) h (λ a b. eqb-false (q .start) (q .end) a)

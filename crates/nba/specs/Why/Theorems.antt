@@ -23,10 +23,10 @@ use Rattle.network.specs.CaseSplit.{by-eq, by-lt}
 use Rattle.network.specs.Shift.{up, low-mag, up-within}
 use Rattle.network.specs.PotentialLaws.{shift, shifted}
 use Rattle.nba.specs.State.{missing, present, State, half, labelOf, neighbourOf, stateOf, openedBy}
-use Rattle.nba.specs.Search.{keyOf, target, boundByTarget, rejected, afterTurns, atOnce, stateAt, endState}
+use Rattle.nba.specs.Search.{keyOf, target, ended, boundByTarget, rejected, afterTurns, atOnce, stateAt, endState}
 use Rattle.nba.specs.Why.ByMark.{afterTurnsByMark}
 use Rattle.nba.specs.Result.{figuresIn, found}
-use Rattle.nba.specs.Demands.{WalkOfLength, Demand2Found, Demand3Turns, Demand3Opened, Demand3Bound, withPattern, SameLengthAndVerdict, both-routes, both-none, BelowTheMark, pathAt}
+use Rattle.nba.specs.Demands.{WalkOfLength, Demand2Found, Demand3Turns, Demand3Opened, Demand3Bound, withPattern, SameLengthAndVerdict, both-routes, both-none, BelowTheMark, pathAt, Demand3TurnsAt}
 use Rattle.nba.specs.Why.Fits.{EntriesFit, FiguresFit, PathFits}
 use Rattle.nba.specs.Why.Measures.{potential}
 use Rattle.nba.specs.Why.MeasureLaws.{opened-some, taken-opened, shiftable}
@@ -39,9 +39,9 @@ use Rattle.nba.specs.Why.TrailLaws.{follows-inside}
 use Rattle.nba.specs.Why.PathLaws.{Every, of-none, of-more, joined-is, joined-walk}
 use Rattle.nba.specs.Why.ShortWalk.{walk-beside, none-twice-short, joined-inside, joined-some}
 use Rattle.nba.specs.Why.Invariant.{Orderly, Invariant}
-use Rattle.nba.specs.Why.RunLaws.{ends, turns-figure, orderly, invariant, turn-leaves, left-once}
+use Rattle.nba.specs.Why.RunLaws.{made, turns-figure, orderly, invariant, turn-leaves, left-once}
 use Rattle.nba.specs.Why.ByMarkLaws.{same-search, same-at}
-use Rattle.nba.specs.Why.EndLaws.{RouteRead, route-read, no-route-read, route-answered, no-route-answered, by-start, at-cap, least-at-end, path-real, path-once}
+use Rattle.nba.specs.Why.EndLaws.{over-searched, over-at-end, RouteRead, route-read, no-route-read, route-answered, no-route-answered, by-start, at-cap, least-at-end, path-real, path-once}
 
 -- ---- demand 2
 module _ {q : Query} (sound : Sound q) where
@@ -74,22 +74,38 @@ module _ {q : Query} (sound : Sound q) where
       }
 
 -- ---- demand 3
--- the search ends in at most as many turns as there are nodes, and each node leaves once
-pub demand-3-turns : {q : Query} → Sound q → q .start ≢ q .end → Demand3Turns q (figuresIn (endState q .states) .turns)
-demand-3-turns {q} sound d =
-    let e = ends sound in
-    let at = same-at sound d (q .network .nodes) ∙ stays-ended-by-mark q (e .turns) (q .network .nodes) (e .over) (e .few) in
-    let st = afterTurnsByMark q (e .turns) in
-    let same = same-search sound d in
-    let turns : figuresIn (endState q .states) .turns ≡ e .turns = ap (λ (st : State). figuresIn (st .states) .turns) at ∙ omega (arith, turns-figure sound st (orderly sound (e .turns) .tabled .states-long), e .left-are-turns) in
-    rw turns (record {
-      few = e .few;
-      going = λ i l. rw (same i) (e .going i l);
-      one-leaves = λ i l. rw (same i, same (suc i)) (turn-leaves sound i (e .going i l));
-      over = rw (same (e .turns)) (e .over);
-      at-end = at ∙ sym (same (e .turns));
-      once = λ v i j. rw (same i, same j) (left-once sound v i j);
-    })
+-- at every cap: the turns made are at most the cap and at most the nodes, and each node leaves once
+module _ {q : Query} (sound : Sound q) (d : q .start ≢ q .end) where
+  pub demand-3-turns-at : (cap : ℕ) → Demand3TurnsAt q cap (figuresIn (stateAt q cap .states) .turns)
+  demand-3-turns-at cap =
+      let m = made sound cap in
+      let same = same-search sound d in
+      let t = m .turns in
+      let there : afterTurnsByMark q cap ≡ afterTurnsByMark q t = by-lt t cap (λ l. stays-ended-by-mark q t cap (m .fewer l) (omega arith)) (λ l. let e : cap ≡ t = omega (arith, m .within-cap) in ap (afterTurnsByMark q) e) in
+      let at = same-at sound d cap ∙ there in
+      let turns : figuresIn (stateAt q cap .states) .turns ≡ t = ap (λ (st : State). figuresIn (st .states) .turns) at ∙ omega (arith, turns-figure sound (afterTurnsByMark q t) (orderly sound t .tabled .states-long), m .left-are-turns) in
+      rw turns (record {
+        within-cap = m .within-cap;
+        few = omega (arith, m .left-are-turns);
+        going = λ i l. rw (same i) (m .going i l);
+        one-leaves = λ i l. rw (same i, same (suc i)) (turn-leaves sound i (m .going i l));
+        at-cap = at ∙ sym (same t);
+        fewer = λ l. rw (same t) (m .fewer l);
+        once = λ v i j. rw (same i, same j) (left-once sound v i j);
+      })
+
+  -- at as many turns as there are nodes the search has ended
+  pub demand-3-turns : Demand3Turns q (figuresIn (endState q .states) .turns)
+  demand-3-turns =
+      let a = demand-3-turns-at (q .network .nodes) in
+      record {
+        few = a .few;
+        going = a .going;
+        one-leaves = a .one-leaves;
+        over = ap (ended q) (sym (a .at-cap)) ∙ sym (over-searched sound d (endState q)) ∙ over-at-end sound;
+        at-end = a .at-cap;
+        once = a .once;
+      }
 
 -- a walk from start to end, as a walk of a side from its source to its target
 walk-of-side : (q : Query) {l : ℕ} (s : Side) → WalkOfLength q l → Walk s (q .network) (source s q) (target q s) l
@@ -214,8 +230,7 @@ every-at of-none i h = absurd (omega arith)
 every-at (of-more p e) zero h = p
 every-at (of-more p e) (suc i) h = every-at e i (omega arith)
 
--- the path through the meeting node has at least one node and no more than there are, all of them nodes: at every cap, and of a
--- route answered
+-- the path through the meeting node has at least one node and no more than there are, all of them nodes: at every cap
 pub path-fits-at : {q : Query} → Sound q → (cap : ℕ) → stateAt q cap .best < missing → PathFits q cap (length (pathAt q cap))
 path-fits-at {q} sound cap h =
     let m = at-cap sound cap .meeting h in
@@ -227,6 +242,3 @@ path-fits-at {q} sound cap h =
       few = none-twice-short (path-once m) i;
       inside = λ k l. every-at i k l;
     }
-
-pub path-fits : {q : Query} {l n : ℕ} {f : Figures} → Sound q → found q ≡ Route l n f → PathFits q (q .network .nodes) n
-path-fits {q} sound e = let r = read sound e in rw (r .nodes-are) at (path-fits-at sound (q .network .nodes) (r .here))
