@@ -134,7 +134,7 @@ static void say_route(const uint8_t *line, const uint8_t *path, const uint8_t *a
     say_figures(line + 14);
 }
 
-/* A route that can be driven, found before the search was stopped, and how much quicker another may be. */
+/* A route found before the search was stopped, and how much quicker another may be at most. */
 static void say_provisional(const uint8_t *line, const uint8_t *path, const uint8_t *after)
 {
     uint32_t excess = field(line + 10, 8);
@@ -142,13 +142,13 @@ static void say_provisional(const uint8_t *line, const uint8_t *path, const uint
     printf("Provisional route of ");
     say_duration(field(line + 2, 8));
     say_path(path, after);
-    printf("It can be driven. The search was stopped at its cap of turns");
+    printf("It leads from the start to the end. The search was stopped early, at its cap of turns");
     if (excess == 0) {
         printf(", but no route is quicker.\n");
     } else {
-        printf("; the quickest route may save up to ");
+        printf(": the quickest route may be shorter, by at most ");
         say_duration(excess);
-        printf(", never more.\n");
+        printf(".\n");
     }
 }
 

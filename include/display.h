@@ -54,6 +54,8 @@ extern "C" {
  *   FF..             a refusal with its number and place; it may also follow the lines above, when the file goes on after
  *                    its query with what may not stand there
  *
+ * README.md has the fields of each line; lengths are tenths of a second.
+ *
  * Returns the count of bytes written, which is at least 7. The bytes of the room beyond them are unchanged.
  * Returns 0 if the lines do not fit, and only then: no answer is empty. Then the whole room is unchanged, and a larger room
  * gives the answer.

@@ -104,7 +104,8 @@ fn count(tally: &mut Tally, whole: &str, answer: &str) -> Result<(), String> {
 
 /// The page with new tables of caps: the words before them and the tables after them stay as they were.
 fn with_words(page: &str, text: &str) -> String {
-    let (words, rest) = page.split_once(CAPS_MARK).unwrap_or((page, page));
+    let (words, rest) =
+        page.split_once(CAPS_MARK).unwrap_or_else(|| (page.split_once(MARK).map_or(page, |(words, _)| words), page));
     let after = rest.split_once(MARK).map_or(String::new(), |(_, after)| format!("\n{MARK}{after}"));
     format!("{words}{CAPS_MARK}\n{text}{after}")
 }

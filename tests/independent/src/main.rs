@@ -33,8 +33,6 @@ independent tables < FILE     print the work lists at the end of each query
 independent cases [--fault NAME]   print P1 to P12, and some at caps, with their work lists, as the program `cases` should
 ";
 
-const FIXED_SEEDS: Range<u64> = 0..20_000;
-
 fn main() -> ExitCode {
     let arguments: Vec<String> = env::args().skip(1).collect();
     let Some((command, rest)) = arguments.split_first() else {
@@ -71,7 +69,7 @@ fn root() -> PathBuf {
 
 fn plan(arguments: &[String]) -> Result<Plan, String> {
     let mut plan = Plan {
-        seeds: FIXED_SEEDS,
+        seeds: make::FIXED_SEEDS,
         routeline: Some(root().join("target/bin/routeline")),
         with_routeline: true,
         display: None,

@@ -5,6 +5,7 @@ use crate::frames::{frame_line, Frame};
 use crate::model::{self, Arc, Network, Node, Query, MOST_ARCS, MOST_NODES, TOP_WEIGHT};
 use crate::potentials::{lowered, potentials, reversed, shifted, upset_consistency, upset_range};
 use crate::random::Random;
+use std::ops::Range;
 
 pub struct Made {
     /// What the file is, in a few words.
@@ -12,8 +13,11 @@ pub struct Made {
     pub bytes: Vec<u8>,
 }
 
+/// The files that the gate compares.
+pub const FIXED_SEEDS: Range<u64> = 0..20_000;
+
 /// One in this many files is large.
-const LARGE_EVERY: u64 = 64;
+pub const LARGE_EVERY: u64 = 64;
 
 pub fn file(seed: u64) -> Made {
     let mut random = Random::new(seed);
@@ -25,7 +29,7 @@ pub fn file(seed: u64) -> Made {
     } else {
         small(&mut random)
     };
-    if random.chance(60) {
+    if random.chance(65) {
         cap_some(&mut random, &mut district);
         shape += ", capped";
     }
@@ -571,10 +575,12 @@ fn queries_for(random: &mut Random, nodes: usize, start: usize, end: usize, coun
 }
 
 /// Gives some of the queries a cap, none and few turns, those just before and just at the end of the search, more than
-/// it needs, or any. Where that is quick, the same trip is asked at several caps and perhaps without one, in any order.
+/// it needs, or any. Where that is quick, the same trip is asked at several caps and perhaps without one, in any order;
+/// in a large district one trip is asked at no turn, at one, just before and just at its end.
 fn cap_some(random: &mut Random, district: &mut District) {
     let network = Network { nodes: district.nodes.clone(), arcs: arcs_of(&district.streets) };
     let quick = network.nodes.len() <= 300 && district.queries.len() <= 100;
+    let mut asked_through = quick;
     let mut queries = Vec::new();
     for query in std::mem::take(&mut district.queries) {
         if random.chance(40) {
@@ -586,6 +592,10 @@ fn cap_some(random: &mut Random, district: &mut District) {
         if quick {
             caps.extend((0..1 + random.below(4)).map(|_| Some(cap(random, turns))));
             caps.extend(random.chance(50).then_some(None));
+            random.shuffle(&mut caps);
+        } else if !asked_through && turns > 2 {
+            asked_through = true;
+            caps = [0, 1, turns - 1, turns].map(Some).to_vec();
             random.shuffle(&mut caps);
         }
         queries.extend(caps.into_iter().map(|cap| query.at(cap)));

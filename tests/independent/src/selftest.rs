@@ -13,7 +13,7 @@ type Passed = Result<(), String>;
 
 type Test = (&'static str, fn() -> Passed);
 
-const TESTS: [Test; 14] = [
+const TESTS: [Test; 15] = [
     ("the cases P1 to P12", p_cases),
     ("the cases that are run only", run_only_cases),
     ("district D5 at each cap", capped_cases),
@@ -26,6 +26,7 @@ const TESTS: [Test; 14] = [
     ("made files: the same for the same seed, and read back", made_files),
     ("the demands over made files", demands),
     ("what is promised at every cap", every_cap),
+    ("capped queries at every size", caps_at_every_size),
     ("what a larger cap takes back is noticed", taken_back),
     ("every fault is noticed", faults_noticed),
 ];
@@ -368,6 +369,32 @@ fn every_cap() -> Passed {
         return Err(format!("{stopped:?} provisional and undecided"));
     }
     Ok(())
+}
+
+/// The most nodes of each size of district.
+const SIZES: [usize; 6] = [8, 24, 64, 300, MOST_NODES - 1, MOST_NODES];
+
+/// Among the answered searches at each size are some at cap 0, at cap 1, just before and just at their end.
+fn caps_at_every_size() -> Passed {
+    let mut met = [[0; 4]; SIZES.len()];
+    for seed in make::FIXED_SEEDS.filter(|seed| *seed < 2_000 || seed.is_multiple_of(make::LARGE_EVERY)) {
+        let file = answer_file(&make::file(seed).bytes, Reader::Program, None);
+        let Some(size) = SIZES.iter().position(|&most| file.network.nodes.len() <= most) else { continue };
+        for (query, answer) in &file.asked {
+            let Some(cap) = query.cap else { continue };
+            if query.start == query.end || matches!(answer, Answer::Refused(_)) {
+                continue;
+            }
+            let turns = model::answer(&file.network, &query.at(None), None).turns_taken as u16;
+            for (count, here) in met[size].iter_mut().zip([0, 1, turns - 1, turns]) {
+                *count += usize::from(cap == here);
+            }
+        }
+    }
+    match met.iter().position(|counts| counts.contains(&0)) {
+        Some(size) => Err(format!("up to {} nodes: {:?}", SIZES[size], met[size])),
+        None => Ok(()),
+    }
 }
 
 fn taken_back() -> Passed {
