@@ -1,6 +1,6 @@
--- What the display's entry promises (docs/RULES.md, "The display"): lines that fit stand at the front of the room, the count is theirs,
--- and the bytes beyond them are unchanged; lines that do not fit leave the room unchanged, and the count is 0. Nothing else is
--- admitted. And what the header says of the count: 0 means only that the lines do not fit, any other count is at least 7, and
+-- What the display's entry promises (docs/RULES.md, "The display"): lines that fit stand at the front of the room, the count is
+-- theirs, and the bytes beyond them are unchanged; lines that do not fit leave the room unchanged, and the count is 0. Nothing else
+-- is admitted. And what the header says of the count: 0 means only that the lines do not fit, any other count is at least 7, and
 -- there is a room that always suffices. Assumes nothing.
 use mathlib.Core.Path.{_≡_, sym, _∙_}
 use mathlib.Core.Bool.{true}

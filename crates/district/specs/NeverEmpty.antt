@@ -1,5 +1,5 @@
--- No answer is empty: every file prints at least the bytes of an undecided's line, whoever reads it. The argument: a file that goes on and has
--- no query answered still owes one, so a query's lines or a refusal's are still to come. Assumes nothing.
+-- No answer is empty: every file prints at least the bytes of an undecided's line, whoever reads it. The argument: a file that goes
+-- on and has no query answered still owes one, so a query's lines or a refusal's are still to come. Assumes nothing.
 use mathlib.Core.Path.{_≡_, refl}
 use mathlib.Core.Bool.{Bool, true, false, _||_, or-true}
 use mathlib.Core.List.{List, [], _∷_, _++_}

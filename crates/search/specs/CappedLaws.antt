@@ -1,6 +1,6 @@
--- What is demanded at a cap follows from what a query with a cap leaves, by the theorems of `nba`: a search that ended is one without a
--- cap, and the others are honest and never taken back. What such a query leaves is one thing only, and without a cap it is what a
--- query leaves at as many turns as there are nodes. Assumes nothing.
+-- What is demanded at a cap follows from what a query with a cap leaves, by the theorems of `nba`: a search that ended is one
+-- without a cap, and the others are honest and never taken back. What such a query leaves is one thing only, and without a cap it
+-- is what a query leaves at as many turns as there are nodes. Assumes nothing.
 use mathlib.Core.Path.{_≡_, refl, sym, ap, _∙_}
 use Prim.Native.Nat.{ℕ, _≤_}
 use native.Mathlib.Omega.{arith}

@@ -1,6 +1,7 @@
--- Cases of what a query leaves, without a cap and at one, entry for entry, in lists that are one entry longer than needed: who writes
--- beyond the node count or beyond the path, who shows a path where there is no route or nothing yet, who makes a turn after the last
--- of a cap, and who writes and then refuses, leaves something else. One list, and one proof over it by computation. Assumes nothing.
+-- Cases of what a query leaves, without a cap and at one, entry for entry, in lists that are one entry longer than needed: who
+-- writes beyond the node count or beyond the path, who shows a path where there is no route or nothing yet, who makes a turn after
+-- the last of a cap, and who writes and then refuses, leaves something else. One list, and one proof over it by computation.
+-- Assumes nothing.
 use mathlib.Core.Path.{_≡_, refl}
 use mathlib.Core.List.{List, [], _∷_, map}
 use Prim.Native.Nat.{ℕ}
@@ -60,8 +61,8 @@ leaving-cases =
     ∷ trip 1 1 (0 ∷ []) (left (Route 0 1 (counts 0 0 0 0)) (lentLists (over missing 0) (over noNode noNode) (over missing 0) (over noNode noNode) (over 0 0) (over 1 8)))
     -- an empty pattern: nothing changes
     ∷ trip 0 1 [] (left (Refused Pattern) (lentLists old old old old old old))
-    -- the route at a cap of two turns, which it takes; at one turn it is provisional, with no excess; at none the query is undecided, with
-    -- the tables as at the beginning of a search and the path list whole
+    -- the route at a cap of two turns, which it takes; at one turn it is provisional, with no excess; at none the query is
+    -- undecided, with the tables as at the beginning of a search and the path list whole
     ∷ tripAt 0 1 (0 ∷ []) 2 (left (Route 1 2 (counts 2 1 0 1)) (lentLists (over 0 1) (over noNode 0) (over missing 0) (over noNode noNode) (over 1 2) (over 0 1)))
     ∷ tripAt 0 1 (0 ∷ []) 1 (left (Provisional 1 0 2 (counts 1 1 0 0)) (lentLists (over 0 1) (over noNode 0) (over missing 0) (over noNode noNode) (over 1 0) (over 0 1)))
     ∷ tripAt 0 1 (0 ∷ []) 0 (left (Undecided (counts 0 0 0 0)) (lentLists (over 0 missing) (over noNode noNode) (over missing 0) (over noNode noNode) (over 0 0) old))

@@ -1,5 +1,5 @@
--- The buyer's three demands (docs/RULES.md, "The three demands"), and what is demanded at a cap (docs/RULES.md, "Capped queries"), of a
--- query's answer and of the lent lists before and after it: what stands in the query's own contract. Assumes nothing.
+-- The buyer's three demands (docs/RULES.md, "The three demands"), and what is demanded at a cap (docs/RULES.md, "Capped queries"),
+-- of a query's answer and of the lent lists before and after it: what stands in the query's own contract. Assumes nothing.
 use mathlib.Core.Path.{_≡_}
 use mathlib.Core.Logic.{_≢_}
 use mathlib.Core.Bool.{true, false}

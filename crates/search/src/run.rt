@@ -1,6 +1,6 @@
 // The turns of a search (docs/RULES.md, "The search, turn by turn"), one after the other, from the beginning to the end or to the
-// last turn of a cap, on lists with exactly one entry a node. The pattern says whose turn it is; a turn is made by `turn::side_turn` on the lists
-// of that side.
+// last turn of a cap, on lists with exactly one entry a node. The pattern says whose turn it is; a turn is made by
+// `turn::side_turn` on the lists of that side.
 ghost use mathlib.Core.Path.{_≡_};
 ghost use lib.ListN.{length};
 ghost use Rattle.network.specs.Given.{Sound};

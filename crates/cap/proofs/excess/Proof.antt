@@ -1,5 +1,5 @@
--- `excess` meets its contract: each floor less its potential is below 2^41 in size, so is the largest of them and 0, and that is not
--- negative. Assumes nothing.
+-- `excess` meets its contract: each floor less its potential is below 2^41 in size, so is the largest of them and 0, and that is
+-- not negative. Assumes nothing.
 use mathlib.Core.Path.{_≡_, refl, ap, _∙_}
 use native.Mathlib.Omega.{arith}
 use Prim.Native.Nat.{_+_, _<_, _^_}

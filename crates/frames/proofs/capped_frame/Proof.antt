@@ -1,4 +1,5 @@
--- `frames::capped_frame` meets its contract: it reads the definition's fields in a line of the definition's length. Assumes nothing.
+-- `frames::capped_frame` meets its contract: it reads the definition's fields in a line of the definition's length.
+-- Assumes nothing.
 use mathlib.Core.Path.{_≡_}
 use native.Mathlib.Omega.{arith}
 use mathlib.Core.List.{List}

@@ -1,4 +1,5 @@
--- `frames::place_with_path` meets its contract: what is placed after the line is the path list's part that it shows. Assumes nothing.
+-- `frames::place_with_path` meets its contract: what is placed after the line is the path list's part that it shows.
+-- Assumes nothing.
 use mathlib.Core.Path.{sym}
 use native.Mathlib.Omega.{arith}
 use lib.Seq.{length-take-le, take-all}

@@ -1,4 +1,5 @@
--- `frames::write_entries` meets its contract: the entries underway are the values of the line's digits from the place on. Assumes nothing.
+-- `frames::write_entries` meets its contract: the entries underway are the values of the line's digits from the place on.
+-- Assumes nothing.
 use mathlib.Core.List.{_∷_}
 use mathlib.Core.Path.{_≡_}
 use Prim.Native.Nat.{_+_, _-_, _≤_}

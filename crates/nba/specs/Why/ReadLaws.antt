@@ -1,5 +1,5 @@
--- How an answer at a cap (docs/RULES.md, "Capped queries") reads the state there: it is one of four, by whether the search is over and
--- whether there is a best length. Assumes nothing.
+-- How an answer at a cap (docs/RULES.md, "Capped queries") reads the state there: it is one of four, by whether the search is over
+-- and whether there is a best length. Assumes nothing.
 use mathlib.Core.Path.{_≡_, refl}
 use mathlib.Core.Logic.{_≢_}
 use mathlib.Core.Bool.{true, false}

@@ -1,5 +1,5 @@
--- `searched` meets its contract: `find` leaves the tables of the state at the cap, and figures, path, excess and answer are read off
--- them. Assumes nothing.
+-- `searched` meets its contract: `find` leaves the tables of the state at the cap, and figures, path, excess and answer are read
+-- off them. Assumes nothing.
 use mathlib.Core.Path.{_∙_}
 use Rattle.network.proofs.SignedLocals.{back32, back64}
 use Rattle.network.specs.Network.{start, end}
