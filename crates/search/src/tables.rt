@@ -1,8 +1,8 @@
 // The tables of a search before its first turn and after its last. A search works on lists that its caller lends: here
-// they are set to the beginning of a search (docs/RULES.md, step 1), and at its end the figures are counted from the states
-// that it left and the path is written from the neighbours. No turn is made here, so that the turn's own code is about
-// turns alone. Each list has one entry a node, but the path's may be longer. What has two sides is one function: the caller
-// hands over the lists of the side.
+// they are set to the beginning of a search (docs/RULES.md, step 1), and after its last turn the figures are counted
+// from the states that it left and the path is written from the neighbours. No turn is made here, so that the turn's
+// own code is about turns alone. Each list has one entry a node, but the path's may be longer. What has two sides is
+// one function: the caller hands over the lists of the side.
 ghost use mathlib.Core.Path.{_≡_};
 ghost use Prim.Native.Nat.{_+_, _≤_, _<_};
 ghost use mathlib.Core.Bool.{cond};

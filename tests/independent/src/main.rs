@@ -29,7 +29,7 @@ independent selftest          test the independent program itself
 independent answer [--display] [--fault NAME] < FILE   print the independent answer lines
 independent make SEED         print the file of a seed
 independent show < FILE       print a file's network in words
-independent tables < FILE     print the work lists at the end of each query
+independent tables < FILE     print the work lists after each query
 independent cases [--fault NAME]   print P1 to P12, and some at caps, with their work lists, as the program `cases` should
 ";
 

@@ -178,7 +178,7 @@ module _ {q : Query} (sound : Sound q) where
       omega (arith, r .no-longer, f (r .total) (omega (arith, r .small)) (r .walk))
 
   -- no walk is shorter than the best length then
-  pub over-least : (cap : ℕ) → over q (stateAt q cap) ≡ true → (l : ℕ) → WalkOfLength q l → stateAt q cap .best ≤ l
+  over-least : (cap : ℕ) → over q (stateAt q cap) ≡ true → (l : ℕ) → WalkOfLength q l → stateAt q cap .best ≤ l
   over-least cap =
       by-start (λ st. over q st ≡ true → (l : ℕ) → WalkOfLength q l → st .best ≤ l) cap
       (λ e h l p. omega (arith, at-once-best q))

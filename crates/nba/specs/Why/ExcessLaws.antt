@@ -26,7 +26,7 @@ or-zero B (pos n) h = omega arith
 or-zero B (negsuc n) h = omega arith
 
 -- a difference, and 0 if it is negative
-pub or-zero-less : (B : ℕ) (a b : ℤ) → low a ≤ B → low b ≤ B → orZero (a -ℤ b) ≡ up B a - up B b
+or-zero-less : (B : ℕ) (a b : ℤ) → low a ≤ B → low b ≤ B → orZero (a -ℤ b) ≡ up B a - up B b
 or-zero-less B a b h k =
     let n = negℤ b in
     let C = low n in
@@ -49,7 +49,7 @@ larger-pos m (pos n) =
     (λ t. rw t (ap pos (let h = leb-false m n t in omega arith)))
 larger-pos m (negsuc n) = ap pos (omega arith)
 
-pub excess-over : (l : ℕ) (a b : ℤ) → excessOver l a b ≡ l - max (orZero a) (orZero b)
+excess-over : (l : ℕ) (a b : ℤ) → excessOver l a b ≡ l - max (orZero a) (orZero b)
 unfolding excessOver
 excess-over l a b = rw (above-zero a, larger-pos (orZero a) b) (less l (max (orZero a) (orZero b)))
 

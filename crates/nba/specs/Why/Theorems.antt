@@ -1,5 +1,5 @@
--- Demands 2 and 3, of every accepted query and every turn pattern. Each is read off the invariant and the state at the end.
--- Assumes nothing.
+-- Demands 2 and 3, of every sound query and every turn pattern. Each is read off the invariant and the state at a cap, the end
+-- among them. Assumes nothing.
 use mathlib.Core.Path.{_≡_, refl, sym, ap, _∙_}
 use mathlib.Core.Logic.{_≢_}
 use mathlib.Core.Bool.{true, false}
