@@ -31,16 +31,18 @@ returns-2 c =
 returns-3 : tie.Need-returns-3
 unfolding courseOf
 returns-3 c =
+    let entry = c .before .before .before .before .before .before .before in
     let own = c .before .before .before .before .before .own in
     let other = c .before .before .other in
-    rw (own .given .1, other .given .1, lt-ltb _ _ (c .if1 .taken))
+    rw (own .given .1, other .given .1, lt-ltb (entry .args .turns) (entry .args .cap) (c .if1 .taken))
 
 returns-4 : tie.Need-returns-4
 unfolding courseOf
 returns-4 c =
+    let entry = c .before .before .before .before .before .before .before in
     let own = c .before .before .before .before .before .own in
     let other = c .before .before .other in
-    rw (own .given .1, other .given .1, le-ltb _ _ (c .if1 .left))
+    rw (own .given .1, other .given .1, le-ltb (entry .args .turns) (entry .args .cap) (c .if1 .left))
 
 pub next-spec : {M : Type 1} → statement M
 next-spec =
