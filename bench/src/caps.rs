@@ -3,7 +3,7 @@
 
 use crate::fast;
 use crate::road::{Road, Trips};
-use crate::{table, thousands, Flags, MARK, PER_NODE, SEED, SIZES};
+use crate::{over_sizes, table, thousands, Flags, MARK, SEED};
 use independent::model::Query;
 use independent::program;
 use std::path::Path;
@@ -36,15 +36,7 @@ struct Asked {
 }
 
 pub fn run(Flags { routeline, queries, out }: Flags) -> Result<(), String> {
-    let mut rows = Vec::new();
-    for nodes in SIZES {
-        eprintln!("asking {nodes} nodes");
-        let mut road = Road::new(nodes, PER_NODE, SEED);
-        rows.push(ask(&routeline, &road, "zero", Trips::Any, queries)?);
-        rows.push(ask(&routeline, &road, "zero", Trips::Across, queries)?);
-        road.aim_potentials();
-        rows.push(ask(&routeline, &road, "landmark", Trips::Across, queries)?);
-    }
+    let rows = over_sizes("asking", |road, potentials, trips| ask(&routeline, road, potentials, trips, queries))?;
     crate::tell(report(&rows, queries), out, with_words)
 }
 

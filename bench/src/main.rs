@@ -169,16 +169,27 @@ fn flags(arguments: &[String]) -> Result<Flags, String> {
     Ok(flags)
 }
 
-fn run(Flags { routeline, queries, out }: Flags) -> Result<(), String> {
-    let mut by_nodes = Vec::new();
+/// One row for each district and kind of trips, by the number of nodes: with zero potentials trips anywhere and across, and
+/// with potentials that aim trips across.
+fn over_sizes<T>(
+    doing: &str,
+    mut row: impl FnMut(&Road, &'static str, Trips) -> Result<T, String>,
+) -> Result<Vec<T>, String> {
+    let mut rows = Vec::new();
     for nodes in SIZES {
-        eprintln!("measuring {nodes} nodes");
+        eprintln!("{doing} {nodes} nodes");
         let mut road = Road::new(nodes, PER_NODE, SEED);
-        by_nodes.push(measure_file(&routeline, &road, "zero", Trips::Any, queries)?);
-        by_nodes.push(measure_file(&routeline, &road, "zero", Trips::Across, queries)?);
+        rows.push(row(&road, "zero", Trips::Any)?);
+        rows.push(row(&road, "zero", Trips::Across)?);
         road.aim_potentials();
-        by_nodes.push(measure_file(&routeline, &road, "landmark", Trips::Across, queries)?);
+        rows.push(row(&road, "landmark", Trips::Across)?);
     }
+    Ok(rows)
+}
+
+fn run(Flags { routeline, queries, out }: Flags) -> Result<(), String> {
+    let by_nodes =
+        over_sizes("measuring", |road, potentials, trips| measure_file(&routeline, road, potentials, trips, queries))?;
     let mut by_arcs = Vec::new();
     for per_node in [2, 4, 8] {
         eprintln!("measuring 1,024 nodes with {per_node} arcs a node");
