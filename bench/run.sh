@@ -1,15 +1,17 @@
 #!/bin/sh
-# Tests the fast engine, then measures, or with the first word `caps` asks at several caps; the arguments go to `bench run` or
-# `bench caps`. Paths count from the repository root.
+# Tests the fast engine, then measures, or with the first word `caps` asks at several caps, or with `beside` measures two
+# programs; the other arguments go to `bench run`, `bench caps` or `bench beside`. Paths count from the repository root.
 set -eu
 cd "$(dirname "$0")/.."
 bench() {
     cargo run --release --quiet --offline --manifest-path bench/Cargo.toml -- "$@"
 }
 verb=run
-if [ "${1:-}" = caps ]; then
-    verb=caps
+case "${1:-}" in
+caps | beside)
+    verb=$1
     shift
-fi
+    ;;
+esac
 bench test >&2
 bench "$verb" "$@"

@@ -3,7 +3,7 @@
 
 use crate::fast;
 use crate::road::{Road, Trips};
-use crate::{over_sizes, table, thousands, Flags, MARK, SEED};
+use crate::{over_sizes, table, thousands, Flags, CAPS, SEED};
 use independent::model::Query;
 use independent::program;
 use std::path::Path;
@@ -13,9 +13,6 @@ const PARTS: [usize; 4] = [16, 8, 4, 2];
 
 /// So many that a file is answered within a minute under an emulator too.
 const TRIPS_A_FILE: usize = 25;
-
-/// The line under which these tables stand in a page; they go on to `MARK`.
-const CAPS_MARK: &str = "<!-- caps -->\n";
 
 /// What the answers to all trips of a file at one cap came to.
 #[derive(Default)]
@@ -35,9 +32,9 @@ struct Asked {
     tallies: Vec<Tally>,
 }
 
-pub fn run(Flags { routeline, queries, out }: Flags) -> Result<(), String> {
+pub fn run(Flags { routeline, queries, out, .. }: Flags) -> Result<(), String> {
     let rows = over_sizes("asking", |road, potentials, trips| ask(&routeline, road, potentials, trips, queries))?;
-    crate::tell(report(&rows, queries), out, with_words)
+    crate::tell(report(&rows, queries), out, CAPS)
 }
 
 /// Asks each trip without a cap and then at each cap.
@@ -94,17 +91,9 @@ fn count(tally: &mut Tally, whole: &str, answer: &str) -> Result<(), String> {
 
 // ---------------------------------------------------------------- the tables
 
-/// The page with new tables of caps: the words before them and the tables after them stay as they were.
-fn with_words(page: &str, text: &str) -> String {
-    let (words, rest) =
-        page.split_once(CAPS_MARK).unwrap_or_else(|| (page.split_once(MARK).map_or(page, |(words, _)| words), page));
-    let after = rest.split_once(MARK).map_or(String::new(), |(_, after)| format!("\n{MARK}{after}"));
-    format!("{words}{CAPS_MARK}\n{text}{after}")
-}
-
 fn report(rows: &[Asked], queries: usize) -> String {
     let mut text = format!(
-        "The districts and trips of the tables that follow these, {queries} trips a row, pattern 01, each asked without a cap \
+        "## Answers at several caps\n\nThe districts and trips of the tables that follow these, {queries} trips a row, pattern 01, each asked without a cap \
          and at caps of a sixteenth, an eighth, a quarter and half of the nodes. The answers are `routeline`'s own, and every \
          line was compared with the fast engine's: no difference.\n\n\
          Answers by kind, in percent, rounded: decided (a route or no route, as without a cap) / provisional / undecided.\n\n"

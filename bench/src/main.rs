@@ -1,5 +1,6 @@
 //! Measures `routeline` beside a fast independent engine; see README.md.
 
+mod beside;
 mod caps;
 mod fast;
 mod measure;
@@ -16,10 +17,12 @@ use std::process::ExitCode;
 const USAGE: &str = "\
 bench run [flags]      measure and print Markdown tables
 bench caps [flags]     ask at several caps, measure nothing, and print Markdown tables
+bench beside [flags]   measure a turn of two programs, one after the other, and print Markdown tables
   --routeline PATH     the program (default target/bin/routeline under the repository root)
+  --before PATH        for `beside`: the program of an earlier version
   --queries N          queries a file (default 300)
-  --out FILE           write the tables there as well, below the line `<!-- tables -->`, or for `caps` between
-                       `<!-- caps -->` and it; all other words stay
+  --out FILE           write the tables there as well, below the line `<!-- tables -->`, `<!-- caps -->` or `<!-- beside -->`
+                       and above the next such line; all other words stay
 bench test             compare the fast engine with the independent model
 ";
 
@@ -32,6 +35,7 @@ fn main() -> ExitCode {
     let done = match arguments.split_first() {
         Some((command, rest)) if command == "run" => flags(rest).and_then(run),
         Some((command, rest)) if command == "caps" => flags(rest).and_then(caps::run),
+        Some((command, rest)) if command == "beside" => flags(rest).and_then(beside::run),
         Some((command, _)) if command == "test" => test(),
         _ => Err(USAGE.into()),
     };
@@ -94,12 +98,7 @@ fn measure_file(
     let alone = road.reading_alone();
     let (expected, reading) = fast::answer_file(&file);
     let (turns, opened) = (reading.turns as f64, reading.opened as f64);
-    let printed = |file: &[u8]| program::run(routeline, file).map_err(|(what, _)| what);
-    if printed(&file)? != expected {
-        return Err(format!("{} nodes: routeline and the fast engine differ", road.network.nodes.len()));
-    }
-    let program_alone = measure::of_program(|| printed(&alone).map(|_| ()))?;
-    let program_all = measure::of_program(|| printed(&file).map(|_| ()))?;
+    let (program_alone, program_searching) = time_program(routeline, &file, &alone, &expected)?;
     let fast_alone = measure::of_call(|| drop(fast::answer_file(&alone)));
     let fast_all = measure::of_call(|| drop(fast::answer_file(&file)));
     let (dijkstra, a_star) = one_sided(&reading.network, &asked, &expected)?;
@@ -117,9 +116,21 @@ fn measure_file(
         dijkstra,
         a_star,
         reading: [program_alone, fast_alone],
-        searching: [(program_all - program_alone).max(1e-9), (fast_all - fast_alone).max(1e-9)],
+        searching: [program_searching, (fast_all - fast_alone).max(1e-9)],
         memory: program::most_memory(routeline, &few, few_expected),
     })
+}
+
+/// The time that a program takes for reading the network alone, and for all queries of the file with that taken off. What it
+/// prints is compared first.
+fn time_program(program: &Path, file: &[u8], alone: &[u8], expected: &[u8]) -> Result<(f64, f64), String> {
+    let printed = |file: &[u8]| program::run(program, file).map_err(|(what, _)| what);
+    if printed(file)? != expected {
+        return Err(format!("{} and the fast engine differ", program.display()));
+    }
+    let reading = measure::of_program(|| printed(alone).map(|_| ()))?;
+    let all = measure::of_program(|| printed(file).map(|_| ()))?;
+    Ok((reading, (all - reading).max(1e-9)))
 }
 
 /// Nodes taken by Dijkstra and by A*, all queries together; their lengths must be
@@ -149,22 +160,26 @@ fn one_sided(
 
 struct Flags {
     routeline: PathBuf,
+    before: Option<PathBuf>,
     queries: usize,
     out: Option<PathBuf>,
 }
 
 fn flags(arguments: &[String]) -> Result<Flags, String> {
-    let mut flags = Flags { routeline: root().join("target/bin/routeline"), queries: 300, out: None };
+    let mut flags = Flags { routeline: root().join("target/bin/routeline"), before: None, queries: 300, out: None };
     for pair in arguments.chunks(2) {
         match pair {
             [flag, value] if flag == "--routeline" => flags.routeline = PathBuf::from(value),
+            [flag, value] if flag == "--before" => flags.before = Some(PathBuf::from(value)),
             [flag, value] if flag == "--queries" => flags.queries = value.parse().map_err(|_| USAGE)?,
             [flag, value] if flag == "--out" => flags.out = Some(PathBuf::from(value)),
             _ => return Err(USAGE.into()),
         }
     }
-    if !flags.routeline.exists() {
-        return Err(format!("no program at {}; build it, or give --routeline", flags.routeline.display()));
+    for program in [Some(&flags.routeline), flags.before.as_ref()].into_iter().flatten() {
+        if !program.exists() {
+            return Err(format!("no program at {}; build it, or give another path", program.display()));
+        }
     }
     Ok(flags)
 }
@@ -187,23 +202,31 @@ fn over_sizes<T>(
     Ok(rows)
 }
 
-fn run(Flags { routeline, queries, out }: Flags) -> Result<(), String> {
-    let by_nodes =
-        over_sizes("measuring", |road, potentials, trips| measure_file(&routeline, road, potentials, trips, queries))?;
-    let mut by_arcs = Vec::new();
+/// One row for each number of arcs at 1,024 nodes: with zero potentials, trips anywhere.
+fn over_arcs<T>(
+    doing: &str,
+    mut row: impl FnMut(&Road, &'static str, Trips) -> Result<T, String>,
+) -> Result<Vec<T>, String> {
+    let mut rows = Vec::new();
     for per_node in [2, 4, 8] {
-        eprintln!("measuring 1,024 nodes with {per_node} arcs a node");
-        let road = Road::new(1_024, per_node, SEED);
-        by_arcs.push(measure_file(&routeline, &road, "zero", Trips::Any, queries)?);
+        eprintln!("{doing} 1,024 nodes with {per_node} arcs a node");
+        rows.push(row(&Road::new(1_024, per_node, SEED), "zero", Trips::Any)?);
     }
-    tell(report(&by_nodes, &by_arcs, queries), out, with_words)
+    Ok(rows)
+}
+
+fn run(Flags { routeline, queries, out, .. }: Flags) -> Result<(), String> {
+    let row = |road: &Road, potentials, trips| measure_file(&routeline, road, potentials, trips, queries);
+    let by_nodes = over_sizes("measuring", row)?;
+    let by_arcs = over_arcs("measuring", row)?;
+    tell(report(&by_nodes, &by_arcs, queries), out, TABLES)
 }
 
 /// Prints the tables, and puts them into a page if one is named.
-fn tell(text: String, out: Option<PathBuf>, within: fn(&str, &str) -> String) -> Result<(), String> {
+fn tell(text: String, out: Option<PathBuf>, mark: &str) -> Result<(), String> {
     println!("{text}");
     if let Some(out) = out {
-        let page = within(&std::fs::read_to_string(&out).unwrap_or_default(), &text);
+        let page = with_tables(&std::fs::read_to_string(&out).unwrap_or_default(), mark, &text);
         std::fs::write(&out, page).map_err(|error| format!("{}: {error}", out.display()))?;
     }
     Ok(())
@@ -211,15 +234,22 @@ fn tell(text: String, out: Option<PathBuf>, within: fn(&str, &str) -> String) ->
 
 // ---------------------------------------------------------------- the tables
 
-/// The line under which the tables stand in a page.
-const MARK: &str = "<!-- tables -->\n";
+/// The lines under which tables stand in a page, in this order: of `beside`, of `caps` and of `run`.
+const BESIDE: &str = "<!-- beside -->\n";
+const CAPS: &str = "<!-- caps -->\n";
+const TABLES: &str = "<!-- tables -->\n";
+const MARKS: [&str; 3] = [BESIDE, CAPS, TABLES];
 
-/// The page with new tables: the words above the mark stay as they were.
-fn with_words(page: &str, tables: &str) -> String {
-    match page.split_once(MARK) {
-        Some((words, _)) => format!("{words}{MARK}\n{tables}"),
-        None => format!("# Benchmark\n\n{MARK}\n{tables}"),
-    }
+/// The page with new tables under a mark, down to the next mark; all else stays as it was.
+fn with_tables(page: &str, mark: &str, tables: &str) -> String {
+    let later = MARKS.iter().skip_while(|other| **other != mark).skip(1);
+    let (words, old) = page.split_once(mark).unwrap_or_else(|| {
+        let end = later.clone().filter_map(|other| page.find(other)).min().unwrap_or(page.len());
+        page.split_at(end)
+    });
+    let rest = later.filter_map(|other| old.find(other)).min().map_or("", |at| &old[at..]);
+    let gap = if rest.is_empty() { "" } else { "\n" };
+    format!("{words}{mark}\n{tables}{gap}{rest}")
 }
 
 /// A Markdown table, numbers to the right.

@@ -4,23 +4,15 @@ that must find that. A line `# says: ` has the words with which the program must
 
 The faults here are in what calls the system. One that a contract reaches is a must-fail edit of the crate instead.
 
-Such a program is compiled without a proof: `rt try` compiles what is not proved, and a linker that stands in for the kit's
-keeps what it made. It is for the runs and nothing else. The program without an edit is compiled so too: it must pass them."""
-import os
-import platform
-import shutil
-import subprocess
+Such a program is compiled without a proof (tests/unproved.py). It is for the runs and nothing else. The program without an edit
+is compiled so too: it must pass them."""
+import sys
 from pathlib import Path
 
 HERE = Path(__file__).resolve().parent
-ROOT = HERE.parents[1]
-
-# Seconds after which a compiler counts as one that hangs.
-PATIENCE = 300
-
-
-class Unusable(Exception):
-    """Why an edit cannot be tried, in words."""
+sys.path.insert(0, str(HERE.parent))
+import unproved  # noqa: E402
+from unproved import Unusable  # noqa: E402
 
 
 def edits():
@@ -53,42 +45,6 @@ def put_in(edit, crate):
     (crate / file).write_text(text.replace(old, new.removeprefix(" ")))
 
 
-def beside(folder, source, *own):
-    """Makes a folder with a link to each thing of another folder but those that it will have of its own."""
-    folder.mkdir()
-    for thing in source.iterdir():
-        if thing.name not in own:
-            (folder / thing.name).symlink_to(thing)
-
-
-def kit_that_keeps(program, folder):
-    """Makes a kit like the one in use but for its linker, which keeps the first program that it links and fails there."""
-    guide = subprocess.run(["rt", "doc"], capture_output=True, text=True, check=True).stdout.strip()
-    kit = Path(guide).parents[1]
-    beside(folder, kit, "on")
-    (folder / "on").mkdir()
-    for part, own in (("", "toolchain"), ("toolchain", "bin"), ("toolchain/bin", "ld.lld")):
-        below = Path("on", platform.machine(), part)
-        beside(folder / below, kit / below, own)
-    linker = folder / below / "ld.lld"
-    linker.write_text(f'#!/bin/sh\n"{kit / below}/ld.lld" "$@" && /bin/cp program "{program}"\nexit 1\n')
-    linker.chmod(0o755)
-
-
 def compiled(folder, edit):
     """Compiles `routeline` in an empty folder, with an edit or, where that is None, as it is, and gives the program's path."""
-    program = folder / "routeline"
-    kit_that_keeps(program, folder / "kit")
-    beside(folder / "crates", ROOT / "crates", "routeline")
-    shutil.copytree(ROOT / "crates/routeline", folder / "crates/routeline")
-    shutil.copy(ROOT / "crates.txt", folder)
-    if edit:
-        put_in(edit, folder / "crates/routeline")
-    try:
-        done = subprocess.run(["rt", "try", "routeline"], cwd=folder, env={**os.environ, "RATTLE_HOME": str(folder / "kit")},
-                              capture_output=True, text=True, timeout=PATIENCE)
-    except subprocess.TimeoutExpired:
-        raise Unusable("its compiler does not end") from None
-    if not program.exists():
-        raise Unusable(f"it does not compile: {done.stdout}{done.stderr}")
-    return program
+    return unproved.compiled(folder, "routeline", lambda crate: put_in(edit, crate) if edit else None)

@@ -10,8 +10,8 @@ use Rattle.network.specs.declared.Answer.{Answer}
 use Rattle.network.specs.declared.Figures.{Figures}
 use Rattle.nba.specs.Result.{excessOver}
 use Rattle.nba.specs.Search.{Chosen, none, node, isNone}
-use Rattle.turn.specs.declared.Candidate.{Candidate}
-use Rattle.turn.specs.Turn.{meant}
+use Rattle.steps.specs.declared.Candidate.{Candidate}
+use Rattle.steps.specs.Steps.{meant}
 use Rattle.cap.specs.declared.Course.{Course}
 use Rattle.cap.specs.declared.Course.the-variants.{Turn, Ended, UsedUp}
 use Rattle.cap.specs.Stop.{courseOf, withLength, withoutLength}

@@ -7,11 +7,11 @@ ghost use Prim.Native.Nat.{_<_, _^_};
 ghost use lib.IntN.{pos, _-ℤ_};
 ghost use lib.Signed.{leZ, mag};
 ghost use Rattle.nba.specs.Result.{excessOver, larger, orZero};
-ghost use Rattle.turn.specs.Turn.{meant};
+ghost use Rattle.steps.specs.Steps.{meant};
 ghost use Rattle.cap.specs.Stop.{courseOf, withLength, withoutLength};
 use network::Answer;
 use network::Figures;
-use turn::Candidate;
+use steps::Candidate;
 
 // How a search goes on after step 2: with a turn, in which the start side may take the first node and the end side the second;
 // not at all, since it has ended; or not at all, since the turns are used up.

@@ -2,9 +2,11 @@
 // and lists that are too short. Each is one line, its name and what the refusal table says.
 use crate::show;
 use network::Lent;
+use network::MOST_ARCS;
+use network::MOST_NODES;
 
 // Lent lists of `n` entries each, but for the path, of `path` entries.
-fn room(n: usize, path: usize) -> Lent {
+pub fn room(n: usize, path: usize) -> Lent {
     Lent {
         start_labels: n,
         start_neighbours: n,
@@ -15,7 +17,8 @@ fn room(n: usize, path: usize) -> Lent {
     }
 }
 
-// A network whose arcs all go from node 0 to itself, with the same potentials on both sides, and a query from 0 to 0.
+// A network whose arcs all go from node 0 to itself, with the same potentials on both sides, and a query from 0 to 0. It has
+// its index, where that can be built.
 fn loops(
     name: &[u8],
     nodes: u16,
@@ -25,13 +28,31 @@ fn loops(
     pattern: &[u8],
     path: usize,
 ) {
+    let mut out_arcs = [0u16; MOST_ARCS];
+    let mut out_begins = [0u16; MOST_NODES as usize + 1];
+    let mut in_arcs = [0u16; MOST_ARCS];
+    let mut in_begins = [0u16; MOST_NODES as usize + 1];
+    index::build(
+        nodes,
+        ends,
+        ends,
+        weights,
+        &mut out_arcs,
+        &mut out_begins,
+        &mut in_arcs,
+        &mut in_begins,
+    );
     show::verdict(
         name,
-        network::check_query(
+        index::check_query(
             nodes,
             ends,
             ends,
             weights,
+            &out_arcs,
+            &out_begins,
+            &in_arcs,
+            &in_begins,
             potentials,
             potentials,
             0,

@@ -10,7 +10,7 @@ const ROOM: usize = 31 + 3 + 4 * 5;
 // The answer lines of a query, as `routeline` prints them.
 pub fn answer(a: Answer, path: &[u16]) {
     let mut room = [0u8; ROOM];
-    let n = frames::write_answer(&mut room, a, path);
+    let n = answers::write_answer(&mut room, a, path);
     show::text(&room[..n]);
 }
 

@@ -1,7 +1,8 @@
 // Searches: P1 to P12 (docs/RULES.md, "Cases"), and P1 to P4 at caps, each with its answer, its path, the tables that it leaves
 // and its answer lines; and the largest shortest length. P1 to P12 have a cap that no search reaches, and that length none. The
 // lent lists are longer than the node count, and hold what is no label, node or state of these cases, so that an entry that was
-// written where it may not be is seen.
+// written where it may not be is seen. Each search is over an index that is built for it; where the build is refused, the lists of
+// the index hold nothing of use, and the query has that refusal too, or one that comes before it.
 use crate::lines;
 use crate::show;
 use network::Answer;
@@ -12,15 +13,24 @@ ghost use Prim.Native.Nat.{_≤_};
 // What the lent lists hold before a search.
 const OLD_LABEL: u32 = 77;
 
-const OLD_NODE: u16 = 77;
+pub const OLD_NODE: u16 = 77;
 
 const OLD_STATE: u8 = 77;
 
 // A cap that no search reaches, which is as good as none.
-const NO_CAP: u16 = 65535;
+pub const NO_CAP: u16 = 65535;
 
-// The entries of each lent list: three more than district D5 has nodes.
-const LENT: usize = 5 + 3;
+// The entries of each lent list: three more than district D5 has nodes, or arcs.
+pub const LENT: usize = 5 + 3;
+
+// The arcs of district D5 (docs/RULES.md, "District D5").
+pub const D5_NODES: u16 = 5;
+
+pub const D5_TAILS: [u16; 5] = [0, 1, 2, 0, 4];
+
+pub const D5_HEADS: [u16; 5] = [1, 2, 3, 4, 3];
+
+pub const D5_WEIGHTS: [u32; 5] = [1, 1, 1, 2, 2];
 
 // The chain's last node, and how many nodes and arcs it has.
 const LAST: u16 = MOST_NODES - 1;
@@ -66,13 +76,17 @@ fn written(a: Answer, count: u16) -> Counts {
     }
 }
 
-// One case: what it answers at a cap and what it leaves.
-fn case(
+// A query over an index: what it answers at a cap and what it leaves.
+pub fn query(
     name: &[u8],
     count: u16,
     tails: &[u16],
     heads: &[u16],
     weights: &[u32],
+    out_arcs: &[u16],
+    out_begins: &[u16],
+    in_arcs: &[u16],
+    in_begins: &[u16],
     forward: &[i32],
     backward: &[i32],
     start: u16,
@@ -91,6 +105,10 @@ fn case(
         tails,
         heads,
         weights,
+        out_arcs,
+        out_begins,
+        in_arcs,
+        in_begins,
         forward,
         backward,
         start,
@@ -115,14 +133,61 @@ fn case(
     lines::answer(a, &path);
 }
 
+// One case: an index for its arcs, and the query over it.
+fn case(
+    name: &[u8],
+    count: u16,
+    tails: &[u16],
+    heads: &[u16],
+    weights: &[u32],
+    forward: &[i32],
+    backward: &[i32],
+    start: u16,
+    end: u16,
+    pattern: &[u8],
+    cap: u16,
+) {
+    let mut out_arcs = [OLD_NODE; LENT];
+    let mut out_begins = [OLD_NODE; LENT];
+    let mut in_arcs = [OLD_NODE; LENT];
+    let mut in_begins = [OLD_NODE; LENT];
+    index::build(
+        count,
+        tails,
+        heads,
+        weights,
+        &mut out_arcs,
+        &mut out_begins,
+        &mut in_arcs,
+        &mut in_begins,
+    );
+    query(
+        name,
+        count,
+        tails,
+        heads,
+        weights,
+        &out_arcs,
+        &out_begins,
+        &in_arcs,
+        &in_begins,
+        forward,
+        backward,
+        start,
+        end,
+        pattern,
+        cap,
+    );
+}
+
 // A query in district D5.
 fn in_d5(name: &[u8], start: u16, end: u16, pattern: &[u8], cap: u16) {
     case(
         name,
-        5,
-        &[0, 1, 2, 0, 4],
-        &[1, 2, 3, 4, 3],
-        &[1, 1, 1, 2, 2],
+        D5_NODES,
+        &D5_TAILS,
+        &D5_HEADS,
+        &D5_WEIGHTS,
         &[0; 5],
         &[0; 5],
         start,
@@ -224,10 +289,24 @@ fn in_order(list: &[u16]) -> usize {
 }
 
 // A chain of as many nodes as there may be, from its first to its last, each arc of the top weight: the largest shortest
-// length. The work lists have just enough room, and the path list one entry more than the path has nodes.
+// length. The work lists and the index have just enough room, and the path list one entry more than the path has nodes.
 pub fn chain() {
     let tails = rising(0);
     let heads = rising(1);
+    let mut out_arcs = [OLD_NODE; ARCS];
+    let mut out_begins = [OLD_NODE; NODES + 1];
+    let mut in_arcs = [OLD_NODE; ARCS];
+    let mut in_begins = [OLD_NODE; NODES + 1];
+    index::build(
+        MOST_NODES,
+        &tails,
+        &heads,
+        &[MOST_WEIGHT; ARCS],
+        &mut out_arcs,
+        &mut out_begins,
+        &mut in_arcs,
+        &mut in_begins,
+    );
     let mut start_labels = [OLD_LABEL; NODES];
     let mut start_neighbours = [OLD_NODE; NODES];
     let mut end_labels = [OLD_LABEL; NODES];
@@ -239,6 +318,10 @@ pub fn chain() {
         &tails,
         &heads,
         &[MOST_WEIGHT; ARCS],
+        &out_arcs,
+        &out_begins,
+        &in_arcs,
+        &in_begins,
         &[0; NODES],
         &[0; NODES],
         0,

@@ -4,12 +4,15 @@
 // `district`, byte by byte; here they are gathered, and put into the room if they all fit.
 ghost use Prim.Native.Nat.{_+_, _≤_};
 ghost use lib.ListN.{length};
+ghost use Rattle.index.specs.Index.{index};
 ghost use Rattle.frames.specs.Room.{Placed, Laid};
 ghost use Rattle.district.specs.File.{displayAnswer};
 ghost use Rattle.district.specs.Reader.{mostBytes, refusalBytes, Roomy, lists};
 
-// The entries of the lists that hold the potentials.
+// The entries of the lists that hold the potentials, and where each node's arcs begin in the index.
 const NODES: usize = network::MOST_NODES as usize;
+
+const BEGINS: usize = NODES + 1;
 
 // The bytes of a refusal's line.
 const REFUSAL_BYTES: usize = 13;
@@ -37,11 +40,15 @@ fn gather(
     tails: &mut [u16],
     heads: &mut [u16],
     weights: &mut [u32],
+    out_arcs: &mut [u16],
+    out_begins: &mut [u16],
+    in_arcs: &mut [u16],
+    in_begins: &mut [u16],
     forward: &mut [i32],
     backward: &mut [i32],
     text: &mut [u8],
 ) -> usize
-    requires { ⌜ Roomy (lists (now line) (now tails) (now heads) (now weights) (now forward) (now backward)) × (mostBytes + refusalBytes ≤ length (now text)) ⌝ }
+    requires { ⌜ Roomy (lists (now line) (now tails) (now heads) (now weights) (index (now «out_arcs») (now «out_begins») (now «in_arcs») (now «in_begins»)) (now forward) (now backward)) × (mostBytes + refusalBytes ≤ length (now text)) ⌝ }
     ensures { λ r. ⌜ Laid (displayAnswer (now (file .entry))) (now (text .entry)) (now (text .exit)) r ⌝ }
 {
     let mut reader = district::start(true, 1);
@@ -55,6 +62,10 @@ fn gather(
             tails,
             heads,
             weights,
+            out_arcs,
+            out_begins,
+            in_arcs,
+            in_begins,
             forward,
             backward,
             &mut text[at..],
@@ -76,6 +87,10 @@ pub extern "C" fn display_answer(file: &[u8], room: &mut [u8]) -> usize
     let mut tails = [0u16; network::MOST_ARCS];
     let mut heads = [0u16; network::MOST_ARCS];
     let mut weights = [0u32; network::MOST_ARCS];
+    let mut out_arcs = [0u16; network::MOST_ARCS];
+    let mut out_begins = [0u16; BEGINS];
+    let mut in_arcs = [0u16; network::MOST_ARCS];
+    let mut in_begins = [0u16; BEGINS];
     let mut forward = [0i32; NODES];
     let mut backward = [0i32; NODES];
     let mut text = [0u8; district::MOST_BYTES + REFUSAL_BYTES];
@@ -85,6 +100,10 @@ pub extern "C" fn display_answer(file: &[u8], room: &mut [u8]) -> usize
         &mut tails,
         &mut heads,
         &mut weights,
+        &mut out_arcs,
+        &mut out_begins,
+        &mut in_arcs,
+        &mut in_begins,
         &mut forward,
         &mut backward,
         &mut text,

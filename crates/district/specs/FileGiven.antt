@@ -11,6 +11,7 @@ use lib.ListN.{length, take, getD}
 use Rattle.network.specs.declared.Verdict.the-variants.{Accepted}
 use Rattle.frames.specs.declared.Frame.{Frame}
 use Rattle.frames.specs.declared.Frame.the-variants.{Size, Unsound}
+use Rattle.frames.specs.Digits.{numberAt}
 use Rattle.frames.specs.Frame.{frameOf}
 use Rattle.district.specs.File.{Told, nothingTold, lastLine, owing}
 use Rattle.district.specs.Lines.{linesOf, mayStand, badNodes, badArcs, sizeVerdict, toldWith, printedFor}
@@ -133,3 +134,27 @@ pub record QueryNumber (n : ℕ) : Type 0 where
   pub least : 4 ≤ n
   pub most : n ≤ 9
   pub not-room : n ≢ 6
+
+-- ---- what an answer shows
+-- line i of what is printed, counted from 0, without its line feed
+abbrev pub printedLine : List ℕ → ℕ → List ℕ
+printedLine printed i = getD (linesOf printed .whole) i []
+
+-- the kind of a line, its first field, which is FF, 255, for a refusal; and the number of a refusal, its second
+abbrev pub kindIn : List ℕ → ℕ
+kindIn line = numberAt line 0 2
+
+abbrev pub numberIn : List ℕ → ℕ
+numberIn line = numberAt line 2 2
+
+-- the numbers of a file's own refusals
+pub data FileNumber : ℕ → Type 0 where
+  bad-nodes : FileNumber 1
+  bad-arcs : FileNumber 2
+  unsound-line : FileNumber 10
+  misplaced-line : FileNumber 11
+
+-- the numbers that a file's answer can show: those, and the numbers of a query's refusals in a file, 4, 5, 7, 8 or 9
+pub data PrintedNumber (n : ℕ) : Type 0 where
+  of-file : FileNumber n → PrintedNumber n
+  of-query : QueryNumber n → PrintedNumber n

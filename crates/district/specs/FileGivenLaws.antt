@@ -13,7 +13,7 @@ use lib.ListN.{length, take, getD}
 use lib.Seq.{take-length, take-nil, take-suc}
 use borrow.Author.Tests.{eq-eqb, ne-eqb}
 use Rattle.network.specs.declared.Cause.{Cause}
-use Rattle.network.specs.declared.Cause.the-variants.{NodeCount, ArcLists, PotentialLists, StartOrEnd, Pattern, Room, BadArc, BadPotential, Inconsistent, UnsoundLine, MisplacedLine}
+use Rattle.network.specs.declared.Cause.the-variants.{NodeCount, ArcLists, PotentialLists, StartOrEnd, Pattern, Room, BadArc, BadPotential, Inconsistent, UnsoundLine, MisplacedLine, NoSuchArc, WrongIndex}
 use Rattle.network.specs.declared.Verdict.{Verdict}
 use Rattle.network.specs.declared.Verdict.the-variants.{Accepted, Refused}
 use Rattle.network.specs.declared.Answer.the-variants.{Refused as Refusal}
@@ -44,6 +44,8 @@ GivenByCause single first bytes Room = ⊥
 GivenByCause single first bytes (BadArc a) = ⊥
 GivenByCause single first bytes (BadPotential v) = ⊥
 GivenByCause single first bytes (Inconsistent a) = ⊥
+GivenByCause single first bytes (NoSuchArc a) = ⊥
+GivenByCause single first bytes WrongIndex = ⊥
 
 same-cause : {c d : Cause} → Refused c ≡ Refused d → c ≡ d
 same-cause {c} {d} e = cc
@@ -341,6 +343,8 @@ module _ (single : Bool) (first : ℕ) (bytes : List ℕ) where
   given-row (BadArc a) g = absurd g
   given-row (BadPotential v) g = absurd g
   given-row (Inconsistent a) g = absurd g
+  given-row (NoSuchArc a) g = absurd g
+  given-row WrongIndex g = absurd g
 
   given-refused : (c : Cause) → GivenByCause single first bytes c → outcomeOf single first bytes .verdict ≡ Refused c
   given-refused c g = let r : FirstRow rows c = given-row c g .row in verdict-is ∙ row-first rows (r .index) (r .refuses) (r .before)
@@ -363,6 +367,8 @@ module _ (single : Bool) (first : ℕ) (bytes : List ℕ) where
   condition-of (BadArc a) g = absurd g
   condition-of (BadPotential v) g = absurd g
   condition-of (Inconsistent a) g = absurd g
+  condition-of (NoSuchArc a) g = absurd g
+  condition-of WrongIndex g = absurd g
 
   refuses-condition : {v : Verdict} {number place : ℕ} → Refuses v number place → outcomeOf single first bytes .verdict ≡ v → FileCondition single first bytes number place
   refuses-condition (by-cause c) e = condition-of c (refused-given c e)

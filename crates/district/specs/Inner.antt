@@ -1,7 +1,7 @@
 -- What the inner functions of this crate ask and promise: steps that change no list or some of them, and what is known of a
 -- reader where each kind of frame is taken. Nothing outside the crate rests on it. Definitions only. Assumes nothing.
 use mathlib.Core.Path.{_≡_}
-use mathlib.Core.Bool.{Bool, not, _||_}
+use mathlib.Core.Bool.{Bool, false, cond, not, _||_}
 use mathlib.Core.List.{List}
 use Prim.Native.Nat.{ℕ, _+_, _≤_, _<_}
 use lib.Dec.{eqb, ltb}
@@ -11,12 +11,14 @@ use Rattle.network.specs.declared.Verdict.{Verdict}
 use Rattle.network.specs.declared.Verdict.the-variants.{Accepted}
 use Rattle.network.specs.Network.{Network, mostNodes, mostArcs}
 use Rattle.network.specs.Refusal.{listVerdict, networkVerdict}
+use Rattle.index.specs.Index.{Index, shortIndex, wrongIndex}
+use Rattle.index.specs.Table.{buildVerdict}
 use Rattle.frames.specs.declared.Frame.{Frame}
 use Rattle.frames.specs.declared.Frame.the-variants.{Arc}
 use Rattle.district.specs.declared.Reader.{Reader}
 use Rattle.district.specs.declared.Taken.{Taken}
 use Rattle.district.specs.File.{File, FileStep, lastLine}
-use Rattle.district.specs.Reader.{Lists, lists, fileOf, Kept, Stepped}
+use Rattle.district.specs.Reader.{Lists, lists, fileOf, networkRead, builtUnder, RoomyIndex, Kept, Stepped}
 
 -- ---- readers
 -- the reader at the beginning of the next line
@@ -58,13 +60,13 @@ pub record SteppedOver (s : File → FileStep) (r : Reader) (t : Taken) (room ro
 
 -- the same of a step that changes the arc lists only
 pub record SteppedArcs (s : File → FileStep) (r : Reader) (t : Taken) (tails heads weights tails′ heads′ weights′ room room-after : List ℕ) : Type 0 where
-  pub law : (line : List ℕ) (h k : List ℤ) → Kept r (lists line tails heads weights h k)
-      → Stepped (s (fileOf r (lists line tails heads weights h k))) t (lists line tails heads weights h k) (lists line tails′ heads′ weights′ h k) room room-after
+  pub law : (line : List ℕ) (ix : Index) (h k : List ℤ) → Kept r (lists line tails heads weights ix h k)
+      → Stepped (s (fileOf r (lists line tails heads weights ix h k))) t (lists line tails heads weights ix h k) (lists line tails′ heads′ weights′ ix h k) room room-after
 
--- the same of a step that changes the potential lists only
-pub record SteppedPotentials (s : File → FileStep) (r : Reader) (t : Taken) (tails heads weights : List ℕ) (h k h′ k′ : List ℤ) (room room-after : List ℕ) : Type 0 where
-  pub law : (line : List ℕ) → Kept r (lists line tails heads weights h k)
-      → Stepped (s (fileOf r (lists line tails heads weights h k))) t (lists line tails heads weights h k) (lists line tails heads weights h′ k′) room room-after
+-- the same of a step that changes the potential lists and the index only
+pub record SteppedPotentials (s : File → FileStep) (r : Reader) (t : Taken) (tails heads weights : List ℕ) (ix ix′ : Index) (h k h′ k′ : List ℤ) (room room-after : List ℕ) : Type 0 where
+  pub law : (line : List ℕ) → Kept r (lists line tails heads weights ix h k)
+      → Stepped (s (fileOf r (lists line tails heads weights ix h k))) t (lists line tails heads weights ix h k) (lists line tails heads weights ix′ h′ k′) room room-after
 
 -- ---- what is known where a frame is taken
 -- a further line can be counted
@@ -81,14 +83,16 @@ pub record ArcsOpen (r : Reader) (tails heads weights : List ℕ) : Type 0 where
   pub for-weights : mostArcs ≤ length weights
 
 -- a node's potentials can be taken
-pub record PotentialsOpen (r : Reader) (tails heads weights : List ℕ) (forward backward : List ℤ) : Type 0 where
+pub record PotentialsOpen (r : Reader) (tails heads weights : List ℕ) (ix : Index) (forward backward : List ℤ) : Type 0 where
   pub not-last : r .line < lastLine
   pub arcs-read : r .arcs ≤ r .«arcs_read»
   pub owed : r .«nodes_read» < r .nodes
   pub few : r .nodes ≤ mostNodes
+  pub few-arcs : r .«arcs_read» ≤ mostArcs
   pub in-tails : r .«arcs_read» ≤ length tails
   pub in-heads : r .«arcs_read» ≤ length heads
   pub in-weights : r .«arcs_read» ≤ length weights
+  pub for-index : RoomyIndex ix
   pub for-forward : mostNodes ≤ length forward
   pub for-backward : mostNodes ≤ length backward
 
@@ -106,10 +110,25 @@ pub record AllRead (r : Reader) : Type 0 where
   pub some : 0 < r .nodes
   pub each : r .nodes ≤ r .«nodes_read»
 
--- a verdict is the own verdict of a network with sound lists
-pub record Known (own : Verdict) (g : Network) (h k : List ℤ) : Type 0 where
+-- an index can be built where it is to be
+pub record Indexable (r : Reader) (tails heads weights : List ℕ) (ix : Index) : Type 0 where
+  pub in-tails : r .«arcs_read» ≤ length tails
+  pub in-heads : r .«arcs_read» ≤ length heads
+  pub in-weights : r .«arcs_read» ≤ length weights
+  pub sound : r .nodes ≤ r .«nodes_read» → r .verdict ≡ Accepted → buildVerdict (networkRead r tails heads weights) ix ≡ Accepted
+
+-- what the index lists hold, by the reader's counts and its network's own verdict
+unfoldable pub indexBy : Reader → List ℕ → List ℕ → List ℕ → Index → Index
+indexBy r tails heads weights ix =
+    cond (ltb (r .«nodes_read») (r .nodes)) ix (builtUnder (r .verdict) (networkRead r tails heads weights) ix)
+
+-- a verdict is the own verdict of a network with sound lists; its index lists are long enough, and where it is accepted they hold
+-- what its arcs build
+pub record Known (own : Verdict) (g : Network) (ix : Index) (h k : List ℤ) : Type 0 where
   pub lists-sound : listVerdict g h k ≡ Accepted
   pub own-is : own ≡ networkVerdict g h k
+  pub index-long : shortIndex g ix ≡ false
+  pub index-right : own ≡ Accepted → wrongIndex g ix ≡ false
 
 -- a frame is not of kind 02
 pub record NoArc (g : Frame) : Type 0 where

@@ -9,6 +9,7 @@ pub mod Reader
 pub mod Inner
 -- Why: the laws of all these. Nothing of it has to be believed, the checker reads it.
 pub mod ReaderLaws
+pub mod IndexLaws
 pub mod TakenLaws
 pub mod QueryLaws
 pub mod CappedLaws
@@ -19,7 +20,9 @@ pub mod FileGivenLaws
 pub mod SecondQueryLaws
 pub mod NeverEmpty
 pub mod QueryRefusals
+pub mod PrintedLines
 pub mod LastPrinted
+pub mod PrintedNumbers
 pub mod OneAnswer
 pub mod PrintLaws
 -- Files with their answers, computed by these definitions.

@@ -53,6 +53,7 @@ module _ (s : FileStep) (l : Lists) (room : List ℕ) (t u : Taken) (a b : Lists
       let tails : a .tails ≡ b .tails = same-list _ _ _ _ (l .tails) same-arcs-read (ap (λ (f : File). f .told .tails) same-file) (p .beyond .tails) (q .beyond .tails) in
       let heads : a .heads ≡ b .heads = same-list _ _ _ _ (l .heads) same-arcs-read (ap (λ (f : File). f .told .heads) same-file) (p .beyond .heads) (q .beyond .heads) in
       let weights : a .weights ≡ b .weights = same-list _ _ _ _ (l .weights) same-arcs-read (ap (λ (f : File). f .told .weights) same-file) (p .beyond .weights) (q .beyond .weights) in
+      let index : a .index ≡ b .index = p .index-is ∙ sym (q .index-is) in
       let forward : a .forward ≡ b .forward = same-list _ _ _ _ (l .forward) same-nodes-read (ap (λ (f : File). f .told .forward) same-file) (p .beyond .forward) (q .beyond .forward) in
       let backward : a .backward ≡ b .backward = same-list _ _ _ _ (l .backward) same-nodes-read (ap (λ (f : File). f .told .backward) same-file) (p .beyond .backward) (q .beyond .backward) in
       let own : ownVerdict (t .reader) (a .tails) (a .heads) (a .weights) (a .forward) (a .backward) ≡ ownVerdict (u .reader) (b .tails) (b .heads) (b .weights) (b .forward) (b .backward) = λ i.
@@ -74,7 +75,7 @@ module _ (s : FileStep) (l : Lists) (room : List ℕ) (t u : Taken) (a b : Lists
           };
           written = written i;
         },
-        λ i. record { line = held i; tails = tails i; heads = heads i; weights = weights i; forward = forward i; backward = backward i },
+        λ i. record { line = held i; tails = tails i; heads = heads i; weights = weights i; index = index i; forward = forward i; backward = backward i },
         p .room-is .room-is ∙ sym (q .room-is .room-is),
       )
 

@@ -16,17 +16,20 @@ use Rattle.network.specs.declared.Cap.the-variants.{AtMost}
 use Rattle.network.specs.declared.Cause.{Cause}
 use Rattle.network.specs.declared.Verdict.{Verdict}
 use Rattle.network.specs.declared.Verdict.the-variants.{Accepted, Refused as Refusal}
-use Rattle.network.specs.Network.{Network, network, mostNodes, mostArcs}
+use Rattle.network.specs.Network.{Network, mostNodes, mostArcs}
 use Rattle.network.specs.Query.{Query, query}
 use Rattle.network.specs.Refusal.{firstRefusal, badNodeCount, badArcLists, badPotentialLists, listRows, listVerdict, tripVerdict, mapVerdict, queryVerdict}
-use Rattle.network.specs.RefusalLaws.{query-of-sound-lists, network-of-sound-lists}
+use Rattle.network.specs.RefusalLaws.{rows-accepted, query-of-sound-lists, network-of-sound-lists}
 use Rattle.nba.specs.State.{State, present}
 use Rattle.nba.specs.Search.{stateAt}
 use Rattle.nba.specs.Result.{pathOf, figuresIn, excess, foundAt, answerToAt, turnsGiven}
-use Rattle.search.specs.Tables.{atFront}
+use Rattle.network.specs.Front.{atFront}
+use Rattle.index.specs.Index.{Index, wrongIndex}
+use Rattle.index.specs.Table.{indexedVerdict}
+use Rattle.index.specs.IndexedLaws.{indexed-same, accepted-plain}
 use Rattle.search.specs.Promise.{LentLists, shownPath, listsAt, Left, left, searchLeavesAt}
 use Rattle.frames.specs.Frame.{patternOf}
-use Rattle.frames.specs.LineSteps.{pattern-short}
+use Rattle.frames.specs.PatternLaws.{pattern-short}
 use Rattle.frames.specs.declared.Frame.the-variants.{Query as QueryFrame}
 use Rattle.frames.specs.AnswerLines.{answerLine, pathLine, answerLines}
 use Rattle.frames.specs.Room.{laid, Laid, Placed}
@@ -34,11 +37,12 @@ use Rattle.frames.specs.RoomLaws.{placed-laid}
 use borrow.Author.Tests.{eq-eqb, ne-eqb, le-ltb}
 use Rattle.district.specs.declared.Reader.{Reader}
 use Rattle.district.specs.File.{workRoom, queryLines, queryOn, withQuery, wrong, taken, takeQuery}
-use Rattle.district.specs.Reader.{Lists as DistrictLists, toldBy, fileOf, Counted, Roomy, Kept}
+use Rattle.district.specs.Reader.{Lists as DistrictLists, toldBy, fileOf, networkRead, Counted, Roomy, Kept}
 use Rattle.district.specs.Inner.{AllRead, Known}
 use Rattle.nba.specs.Why.ReadLaws.{by-found}
 use Rattle.district.specs.CappedLaws.{capped-lines}
 use Rattle.district.specs.ReaderLaws.{with-all}
+use Rattle.district.specs.IndexLaws.{index-long, kept-right}
 
 module _ (q : Query) (cap : ℕ) where
   -- where there is a best length, the path is at the front of the list that the search leaves
@@ -65,12 +69,12 @@ module _ (q : Query) (cap : ℕ) where
   searched-lines l = found-lines (l .path)
 
   -- what the search of an accepted query leaves is printed as the definition says
-  pub left-lines : (l : LentLists) (a : Answer) (after : LentLists) → queryVerdict q workRoom ≡ Accepted → left a after ≡ searchLeavesAt q cap l → answerLines a (after .path) ≡ queryLines (AtMost cap) q
+  pub left-lines : (ix : Index) (l : LentLists) (a : Answer) (after : LentLists) → indexedVerdict q ix workRoom ≡ Accepted → left a after ≡ searchLeavesAt q cap l → answerLines a (after .path) ≡ queryLines (AtMost cap) q
   unfolding queryLines answerToAt
-  left-lines l a after e h =
+  left-lines ix l a after e h =
       let x : a ≡ foundAt q cap = ap (λ (y : Left). y .answer) h in
       let p : after .path ≡ listsAt q cap l .path = ap (λ (y : Left). y .lists .path) h in
-      rw (e, x, p) (searched-lines l)
+      rw (accepted-plain q ix workRoom e, x, p) (searched-lines l)
 
   -- a refused query prints its refusal
   pub refused-lines : (c : Cause) → queryVerdict q workRoom ≡ Refusal c → answerLines (Refused c) [] ≡ queryLines (AtMost cap) q
@@ -83,11 +87,18 @@ pub given-lines : (c : Cap) (nodes turns : ℕ) → ((q : Query) → q .network 
 given-lines c nodes turns given q e = ap (λ (n : ℕ). queryLines (AtMost n) q) (given q e) ∙ sym (capped-lines c q)
 
 -- ---- the verdict on a query, from the trip's and the network's own
-pub verdict-parts : {own : Verdict} {g : Network} {h k : List ℤ} → Known own g h k → (s e : ℕ) (p : List ℕ)
+pub verdict-parts : {own : Verdict} {g : Network} {ix : Index} {h k : List ℤ} → Known own g ix h k → (s e : ℕ) (p : List ℕ)
     → firstRefusal (tripVerdict (g .nodes) s e p workRoom ∷ own ∷ []) ≡ queryVerdict (query g h k s e p) workRoom
-verdict-parts {own} {g} {h} {k} known s e p =
+verdict-parts {own} {g} {ix} {h} {k} known s e p =
     let map : own ≡ mapVerdict g h k = known .own-is ∙ network-of-sound-lists g h k (known .lists-sound) in
     rw map (sym (query-of-sound-lists (query g h k s e p) workRoom (known .lists-sound)))
+
+-- an accepted one is accepted over the index too: its network is accepted, so the index was built
+pub query-by-parts : {own : Verdict} {g : Network} {ix : Index} {h k : List ℤ} → Known own g ix h k → (s e : ℕ) (p : List ℕ)
+    → firstRefusal (tripVerdict (g .nodes) s e p workRoom ∷ own ∷ []) ≡ Accepted → indexedVerdict (query g h k s e p) ix workRoom ≡ Accepted
+query-by-parts {own} {g} {ix} {h} {k} known s e p accepted =
+    let right : wrongIndex g ix ≡ false = known .index-right (rows-accepted (tripVerdict (g .nodes) s e p workRoom ∷ own ∷ []) accepted 1) in
+    indexed-same (query g h k s e p) ix workRoom (known .index-long) right ∙ (sym (verdict-parts known s e p) ∙ accepted)
 
 -- lists as long as they are to be are sound
 lists-accepted : (g : Network) (h k : List ℤ) → 0 < g .nodes → g .nodes ≤ mostNodes → length (g .heads) ≡ length (g .tails) → length (g .weights) ≡ length (g .tails)
@@ -98,7 +109,7 @@ lists-accepted g h k some few heads weights fewer forward backward =
 
 -- a reader that has read its network carries its own verdict
 pub known-by : (r : Reader) (l : DistrictLists) → Kept r l → AllRead r
-    → Known (r .verdict) (network (r .nodes) (take (r .«arcs_read») (l .tails)) (take (r .«arcs_read») (l .heads)) (take (r .«arcs_read») (l .weights))) (take (r .«nodes_read») (l .forward)) (take (r .«nodes_read») (l .backward))
+    → Known (r .verdict) (networkRead r (l .tails) (l .heads) (l .weights)) (l .index) (take (r .«nodes_read») (l .forward)) (take (r .«nodes_read») (l .backward))
 known-by r l kept all =
     let c : Counted r = kept .counted in
     let y : Roomy l = kept .roomy in
@@ -110,6 +121,8 @@ known-by r l kept all =
     record {
       lists-sound = lists-accepted _ _ _ (all .some) (c .few-nodes) (heads ∙ sym tails) (weights ∙ sym tails) (omega arith) (omega (arith, all .each)) (omega (arith, all .each));
       own-is = kept .judged ∙ with-all r _ _ _ _ _ all;
+      index-long = index-long _ (l .index) (c .few-nodes) (omega arith) (y .for-index);
+      index-right = kept-right r l forward (kept .judged) (kept .indexed) all;
     }
 
 -- a line's pattern has at most 255 entries, so a list of 255 takes it whole

@@ -3,7 +3,7 @@
 -- are as long as they should be, and a query is lent room for the most nodes. Assumes nothing.
 use mathlib.Core.Path.{_≡_, refl, sym, ap, subst, _∙_}
 use mathlib.Core.Logic.{_≢_}
-use mathlib.Core.Bool.{Bool, true, not, _&&_}
+use mathlib.Core.Bool.{Bool, true, false, not, _&&_}
 use mathlib.Core.List.{List, [], _∷_, _++_, map}
 use Prim.Native.Nat.{ℕ, zero, suc, _+_, _≤_, _<_}
 use native.Mathlib.Omega.{arith}
@@ -12,18 +12,18 @@ use lib.ListN.{length, length-append, length-map}
 use borrow.Author.Tests.{eq-eqb, ne-eqb, le-ltb, eqb-true, eqb-false, leb-true, ltb-true, ltb-false, not-true}
 use Rattle.network.specs.declared.Cap.{Cap}
 use Rattle.network.specs.declared.Cause.{Cause}
-use Rattle.network.specs.declared.Cause.the-variants.{NodeCount, ArcLists}
+use Rattle.network.specs.declared.Cause.the-variants.{NodeCount, ArcLists, PotentialLists, StartOrEnd, Pattern, Room, BadArc, BadPotential, Inconsistent}
 use Rattle.network.specs.declared.Verdict.the-variants.{Accepted, Refused}
-use Rattle.network.specs.Answer.{numberOf, placeOf}
+use Rattle.network.specs.Answer.{numberOf}
 use Rattle.network.specs.CaseSplit.{by-bool, both-true, true≢false}
-use Rattle.network.specs.Network.{mostNodes, mostArcs}
-use Rattle.network.specs.Refusal.{firstRefusal, badNodeCount, badArcLists, badPotentialLists, badRoom, queryVerdict}
+use Rattle.network.specs.Network.{Network, arcCount, mostNodes, mostArcs}
+use Rattle.network.specs.Refusal.{firstRefusal, badNodeCount, badArcLists, badPotentialLists, badStartOrEnd, badPattern, badRoom, badArc, badPotential, breaksRule, listRows, tripRows, mapRows, queryVerdict}
 use Rattle.network.specs.RefusalLaws.{refused≢accepted}
-use Rattle.network.specs.Given.{Condition, of-node-count, of-arc-lists, of-potential-lists, of-start-or-end, of-pattern, of-room, of-arc, of-potential, of-rule, by-cause}
-use Rattle.network.specs.GivenLaws.{given-exactly-when}
+use Rattle.network.specs.GivenLaws.{Rows, none, row, said-if, said-at, refused-says}
 use Rattle.frames.specs.declared.Frame.{Frame}
 use Rattle.frames.specs.declared.Frame.the-variants.{Size, Arc, TwoWay, Potentials, Query as QueryFrame, Unsound}
 use Rattle.district.specs.File.{Told, GivenArc, addedArcs, withArcs, sizeOwed, arcsOwed, potentialsOwed, workRoom, queryOn}
+use Rattle.district.specs.Reader.{networkTold}
 use Rattle.district.specs.Lines.{owedArcs, sizeRead, arcsRead, potentialsRead, mayStand, sizeVerdict, toldWith}
 use Rattle.district.specs.FileGiven.{lineCount, frameAfter, toldByLines, toldAfter, TakenAfter, QueryNumber}
 use Rattle.district.specs.FileGivenLaws.{told-next}
@@ -130,6 +130,13 @@ fits-after single first bytes (suc i) h taken =
     (fits-next single (toldAfter bytes i) (fits-after single first bytes i (omega arith) (λ j l. taken j (omega arith))) (frameAfter bytes i) (t .may-stand) (t .good-counts))
 
 -- ---- a query on it
+-- what a row of its table is then: its number is one of a query's refusals in a file
+record Numbered (i number place : ℕ) : Type 0 where
+  pub its : QueryNumber number
+
+numbered : {i number place : ℕ} → 4 ≤ number → number ≤ 9 → number ≢ 6 → Numbered i number place
+numbered least most not-room = record { its = record { least = least; most = most; not-room = not-room } }
+
 module _ (t : Told) (f : Fits t) (all : potentialsRead t ≡ true) (s e : ℕ) (p : List ℕ) where
   some-nodes : t .nodes ≢ 0
   some-nodes =
@@ -141,17 +148,44 @@ module _ (t : Told) (f : Fits t) (all : potentialsRead t ≡ true) (s e : ℕ) (
       both-true (arcsRead t) (not (potentialsOwed t)) all
       (λ _ r. omega (arith, f .nodes-within, ltb-false (length (t .forward)) (t .nodes) (not-true (potentialsOwed t) r)))
 
-  held-numbered : {number place : ℕ} → Condition (queryOn t s e p) workRoom number place → QueryNumber number
-  unfolding badNodeCount badArcLists badPotentialLists badRoom
-  held-numbered (of-node-count h) = absurd (true≢false (rw (ne-eqb (t .nodes) 0 some-nodes, le-ltb mostNodes (t .nodes) (f .few-nodes)) at h) refl)
-  held-numbered (of-arc-lists h) = absurd (true≢false (rw (eq-eqb _ _ (f .heads-long), eq-eqb _ _ (f .weights-long), le-ltb mostArcs (length (t .tails)) (omega (arith, f .arcs-within, f .few-arcs))) at h) refl)
-  held-numbered (of-potential-lists h) = absurd (true≢false (rw (eq-eqb _ _ all-nodes, eq-eqb _ _ (f .backward-long ∙ all-nodes)) at h) refl)
-  held-numbered (of-room h) = absurd (true≢false (rw (le-ltb mostNodes (t .nodes) (f .few-nodes)) at h) refl)
-  held-numbered (of-start-or-end h) = record { least = omega arith; most = omega arith; not-room = λ z. omega arith }
-  held-numbered (of-pattern h) = record { least = omega arith; most = omega arith; not-room = λ z. omega arith }
-  held-numbered (of-arc h) = record { least = omega arith; most = omega arith; not-room = λ z. omega arith }
-  held-numbered (of-potential h) = record { least = omega arith; most = omega arith; not-room = λ z. omega arith }
-  held-numbered (of-rule h) = record { least = omega arith; most = omega arith; not-room = λ z. omega arith }
+  abbrev g : Network
+  g = networkTold t
+
+  -- 1, 2, 3 and 6 are not given
+  good-nodes : badNodeCount g ≡ false
+  unfolding badNodeCount
+  good-nodes = rw (ne-eqb (t .nodes) 0 some-nodes, le-ltb mostNodes (t .nodes) (f .few-nodes))
+
+  good-arc-lists : badArcLists g ≡ false
+  unfolding badArcLists
+  good-arc-lists =
+      rw (eq-eqb _ _ (f .heads-long), eq-eqb _ _ (f .weights-long), le-ltb mostArcs (length (t .tails)) (omega (arith, f .arcs-within, f .few-arcs)))
+
+  good-potential-lists : badPotentialLists g (t .forward) (t .backward) ≡ false
+  unfolding badPotentialLists
+  good-potential-lists = rw (eq-eqb _ _ all-nodes, eq-eqb _ _ (f .backward-long ∙ all-nodes))
+
+  good-room : badRoom (t .nodes) workRoom ≡ false
+  unfolding badRoom
+  good-room = rw (le-ltb mostNodes (t .nodes) (f .few-nodes))
+
+  -- so each row of the table has another number, or does not refuse
+  rows-numbered : Rows Numbered 0 (listRows g (t .forward) (t .backward) ++ (tripRows (t .nodes) s e p workRoom ++ mapRows g (t .forward) (t .backward)))
+  unfolding listRows tripRows mapRows
+  rows-numbered =
+      row (said-if Numbered (badNodeCount g) NodeCount (λ h. absurd (true≢false h good-nodes)))
+      (row (said-if Numbered (badArcLists g) ArcLists (λ h. absurd (true≢false h good-arc-lists)))
+      (row (said-if Numbered (badPotentialLists g (t .forward) (t .backward)) PotentialLists (λ h. absurd (true≢false h good-potential-lists)))
+      (row (said-if Numbered (badStartOrEnd (t .nodes) s e) StartOrEnd (λ h. numbered (omega arith) (omega arith) (λ z. omega arith)))
+      (row (said-if Numbered (badPattern p) Pattern (λ h. numbered (omega arith) (omega arith) (λ z. omega arith)))
+      (row (said-if Numbered (badRoom (t .nodes) workRoom) Room (λ h. absurd (true≢false h good-room)))
+      (row (said-at Numbered BadArc (badArc g) (arcCount g) (λ a h. numbered (omega arith) (omega arith) (λ z. omega arith)))
+      (row (said-at Numbered BadPotential (badPotential (t .forward) (t .backward)) (t .nodes) (λ v h. numbered (omega arith) (omega arith) (λ z. omega arith)))
+      (row (said-at Numbered Inconsistent (breaksRule g (t .forward) (t .backward)) (arcCount g) (λ a h. numbered (omega arith) (omega arith) (λ z. omega arith))) none))))))))
+
+  query-numbered : (c : Cause) → queryVerdict (queryOn t s e p) workRoom ≡ Refused c → QueryNumber (numberOf c)
+  unfolding queryVerdict
+  query-numbered c v = refused-says Numbered rows-numbered c v .holds .its
 
 -- a query that is taken, and refused: its number is 4, 5, 7, 8 or 9
 pub query-refused-with : (single : Bool) (first : ℕ) (bytes : List ℕ) (i : ℕ) → i < lineCount bytes → ((j : ℕ) → j ≤ i → TakenAfter single first bytes j)
@@ -161,5 +195,4 @@ unfolding mayStand
 query-refused-with single first bytes i h taken {s} {e} {n} {cap} frame p c v =
     let stands : mayStand single (toldAfter bytes i) (QueryFrame s e cap n) ≡ true = subst (λ (g : Frame). mayStand single (toldAfter bytes i) g ≡ true) frame (taken i (omega arith) .may-stand) in
     both-true (potentialsRead (toldAfter bytes i)) (not (single && toldAfter bytes i .asked)) stands
-    (λ all _. held-numbered (toldAfter bytes i) (fits-after single first bytes i (omega arith) (λ j l. taken j (omega arith))) all s e p
-    (given-exactly-when (queryOn (toldAfter bytes i) s e p) workRoom (numberOf c) (placeOf c) .0 (rw v (by-cause c)) .holds))
+    (λ all _. query-numbered (toldAfter bytes i) (fits-after single first bytes i (omega arith) (λ j l. taken j (omega arith))) all s e p c v)

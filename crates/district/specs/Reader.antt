@@ -8,14 +8,15 @@ use lib.Dec.{eqb, ltb}
 use lib.IntN.{ℤ}
 use lib.ListN.{length, take, drop}
 use Rattle.network.specs.declared.Verdict.{Verdict}
-use Rattle.network.specs.declared.Verdict.the-variants.{Accepted}
-use Rattle.network.specs.Network.{network, mostNodes, mostArcs}
+use Rattle.network.specs.declared.Verdict.the-variants.{Accepted, Refused}
+use Rattle.network.specs.Network.{Network, network, mostNodes, mostArcs}
 use Rattle.network.specs.Refusal.{networkVerdict}
+use Rattle.index.specs.Index.{Index, builtOn}
 use Rattle.frames.specs.Frame.{mostDigits}
 use Rattle.frames.specs.Room.{Placed}
 use Rattle.district.specs.declared.Reader.{Reader}
 use Rattle.district.specs.declared.Taken.{Taken}
-use Rattle.district.specs.File.{Told, File, FileStep, endOfInput}
+use Rattle.district.specs.File.{Told, File, FileStep, sizeOwed, potentialsOwed, endOfInput}
 
 -- the lists that a reader is lent and that are kept from byte to byte
 pub record Lists : Type 0 where
@@ -23,11 +24,12 @@ pub record Lists : Type 0 where
   pub tails : List ℕ
   pub heads : List ℕ
   pub weights : List ℕ
+  pub index : Index
   pub forward : List ℤ
   pub backward : List ℤ
 
-abbrev pub lists : List ℕ → List ℕ → List ℕ → List ℕ → List ℤ → List ℤ → Lists
-lists line t h w f b = record { line = line; tails = t; heads = h; weights = w; forward = f; backward = b }
+abbrev pub lists : List ℕ → List ℕ → List ℕ → List ℕ → Index → List ℤ → List ℤ → Lists
+lists line t h w ix f b = record { line = line; tails = t; heads = h; weights = w; index = ix; forward = f; backward = b }
 
 -- what a reader and its lists have been told: as many entries of each list as the reader counts
 unfoldable pub toldBy : Reader → Lists → Told
@@ -60,19 +62,47 @@ pub record Counted (r : Reader) : Type 0 where
   -- the line so far is no longer than an input frame can be
   pub held-within : r .held ≤ mostDigits
 
+-- the network that a reader counts in its lists
+abbrev pub networkRead : Reader → List ℕ → List ℕ → List ℕ → Network
+networkRead r tails heads weights =
+    network (r .nodes) (take (r .«arcs_read») tails) (take (r .«arcs_read») heads) (take (r .«arcs_read») weights)
+
 -- what the network itself is refused for (7, 8 or 9): it is known once the last potentials are read, and until then nothing
 -- speaks against it
 unfoldable pub ownVerdict : Reader → List ℕ → List ℕ → List ℕ → List ℤ → List ℤ → Verdict
 ownVerdict r tails heads weights forward backward =
     cond (eqb (r .nodes) 0 || ltb (r .«nodes_read») (r .nodes)) Accepted
-    (networkVerdict (network (r .nodes) (take (r .«arcs_read») tails) (take (r .«arcs_read») heads) (take (r .«arcs_read») weights)) (take (r .«nodes_read») forward) (take (r .«nodes_read») backward))
+    (networkVerdict (networkRead r tails heads weights) (take (r .«nodes_read») forward) (take (r .«nodes_read») backward))
 
--- each list has room for the most entries that a file can give it
+-- the network that is told
+abbrev pub networkTold : Told → Network
+networkTold t = network (t .nodes) (t .tails) (t .heads) (t .weights)
+
+-- the index of a network whose own verdict is known, in lent lists: an accepted network's is built there, from their first
+-- entries on; any other's is not, and they stay as they are
+abbrev pub builtUnder : Verdict → Network → Index → Index
+builtUnder Accepted g ix = builtOn g ix
+builtUnder (Refused c) g ix = ix
+
+-- what lent index lists hold: once all potentials are read, the index of a network that is accepted; until then they are as lent
+unfoldable pub indexKept : Told → Index → Index
+indexKept t ix =
+    cond (sizeOwed t || potentialsOwed t) ix (builtUnder (networkVerdict (networkTold t) (t .forward) (t .backward)) (networkTold t) ix)
+
+-- each list of an index has room for the most entries that a file can give it
+pub record RoomyIndex (ix : Index) : Type 0 where
+  pub for-out-arcs : mostArcs ≤ length (ix .out .arcs)
+  pub for-out-begins : mostNodes < length (ix .out .begins)
+  pub for-in-arcs : mostArcs ≤ length (ix .into .arcs)
+  pub for-in-begins : mostNodes < length (ix .into .begins)
+
+-- and so has each list that a reader is lent
 pub record Roomy (l : Lists) : Type 0 where
   pub for-line : mostDigits ≤ length (l .line)
   pub for-tails : mostArcs ≤ length (l .tails)
   pub for-heads : mostArcs ≤ length (l .heads)
   pub for-weights : mostArcs ≤ length (l .weights)
+  pub for-index : RoomyIndex (l .index)
   pub for-forward : mostNodes ≤ length (l .forward)
   pub for-backward : mostNodes ≤ length (l .backward)
 
@@ -82,6 +112,8 @@ pub record Kept (r : Reader) (l : Lists) : Type 0 where
   pub roomy : Roomy l
   -- the reader carries its network's own verdict
   pub judged : r .verdict ≡ ownVerdict r (l .tails) (l .heads) (l .weights) (l .forward) (l .backward)
+  -- the index is built already where it is to be
+  pub indexed : indexKept (toldBy r l) (l .index) ≡ l .index
 
 -- a reader that a step has left, with some lists
 pub record Reached (r : Reader) : Type 0 where
@@ -113,11 +145,13 @@ pub record Beyond (r : Reader) (l after : Lists) : Type 0 where
   pub forward : drop (r .«nodes_read») (after .forward) ≡ drop (r .«nodes_read») (l .forward)
   pub backward : drop (r .«nodes_read») (after .backward) ≡ drop (r .«nodes_read») (l .backward)
 
--- what a step promises: reader and lists stand for the file that the definition says, with no entry beyond it changed; the
--- bytes that it prints are placed in the room; and the next step may follow
+-- what a step promises: reader and lists stand for the file that the definition says, with no entry beyond it changed; the index
+-- is built with the last potentials of an accepted network, and else left alone; the bytes that the step prints are placed in the
+-- room; and the next step may follow
 pub record Stepped (s : FileStep) (t : Taken) (l after : Lists) (room room-after : List ℕ) : Type 0 where
   pub file-is : fileOf (t .reader) after ≡ s .file
   pub beyond : Beyond (t .reader) l after
+  pub index-is : after .index ≡ indexKept (s .file .told) (l .index)
   pub room-is : Placed (s .printed) room room-after (t .written)
   pub kept : Kept (t .reader) after
 

@@ -1,6 +1,6 @@
 -- Laws of readers and steps: how a reader begins, what a step that changes no list has to show, and what a reader's counts say
 -- of the file that it stands for. Assumes nothing.
-use mathlib.Core.Path.{_≡_, refl, subst, _∙_}
+use mathlib.Core.Path.{_≡_, refl, sym, subst, _∙_}
 use mathlib.Core.Bool.{Bool, true, false}
 use mathlib.Core.List.{List, []}
 use Prim.Native.Nat.{ℕ, zero, suc, _≤_, _<_}
@@ -11,8 +11,8 @@ use lib.Seq.{length-take-le}
 use borrow.Author.Tests.{eq-eqb, ne-eqb, lt-ltb, le-ltb}
 use Rattle.network.specs.declared.Cause.the-variants.{MisplacedLine}
 use Rattle.network.specs.declared.Verdict.the-variants.{Accepted}
-use Rattle.network.specs.Network.{network}
 use Rattle.network.specs.Refusal.{networkVerdict}
+use Rattle.index.specs.Index.{Index}
 use Rattle.frames.specs.declared.Frame.{Frame}
 use Rattle.frames.specs.Frame.{mostDigits, frameOf}
 use Rattle.frames.specs.AnswerLines.{lineFeed}
@@ -20,7 +20,7 @@ use Rattle.frames.specs.RoomLaws.{nothing-placed}
 use Rattle.district.specs.declared.Reader.{Reader}
 use Rattle.district.specs.declared.Taken.{Taken}
 use Rattle.district.specs.File.{File, FileStep, step, beginning, lastLine, refused, takeSize, takeArcs, takePotentials, takeQuery, takeFrame, takeLine, brokenLine, holding, takeByte, owing, endOfInput}
-use Rattle.district.specs.Reader.{Lists, lists, toldBy, fileOf, Counted, Roomy, Kept, Beyond, Stepped, startReader, ownVerdict}
+use Rattle.district.specs.Reader.{Lists, lists, toldBy, fileOf, Counted, RoomyIndex, Roomy, Kept, Beyond, Stepped, startReader, networkRead, ownVerdict, indexKept}
 use Rattle.district.specs.Inner.{SteppedOver, SteppedArcs, SteppedPotentials, NotLast, PotentialsOpen, AllRead, owesBy}
 
 -- ---- the beginning
@@ -42,8 +42,8 @@ start-counted single line =
     }
 
 pub start-kept : (single : Bool) (line : ℕ) (l : Lists) → Roomy l → Kept (startReader single line) l
-unfolding startReader ownVerdict
-start-kept single line l h = record { counted = start-counted single line; roomy = h; judged = refl }
+unfolding startReader ownVerdict indexKept toldBy
+start-kept single line l h = record { counted = start-counted single line; roomy = h; judged = refl; indexed = refl }
 
 -- ---- the network's own verdict
 pub positive : (n : ℕ) → (n ≡ 0 → ⊥) → 0 < n
@@ -62,7 +62,7 @@ module _ (r : Reader) (tails heads weights : List ℕ) (forward backward : List 
 
   -- with the last potentials it is what the table says of the network
   pub with-all : AllRead r → ownVerdict r tails heads weights forward backward
-      ≡ networkVerdict (network (r .nodes) (take (r .«arcs_read») tails) (take (r .«arcs_read») heads) (take (r .«arcs_read») weights)) (take (r .«nodes_read») forward) (take (r .«nodes_read») backward)
+      ≡ networkVerdict (networkRead r tails heads weights) (take (r .«nodes_read») forward) (take (r .«nodes_read») backward)
   unfolding ownVerdict
   with-all all = rw (ne-eqb (r .nodes) 0 (λ e. omega (arith, all .some)), le-ltb _ _ (all .each))
 
@@ -80,11 +80,11 @@ over-as e h = record { law = λ l k. stepped-as (e l k) (h .law l k) }
 
 pub over-arcs : {s : File → FileStep} {r : Reader} {t : Taken} {room room′ : List ℕ} (tails heads weights : List ℕ) → SteppedOver s r t room room′
     → SteppedArcs s r t tails heads weights tails heads weights room room′
-over-arcs tails heads weights h = record { law = λ line f b k. h .law (lists line tails heads weights f b) k }
+over-arcs tails heads weights h = record { law = λ line ix f b k. h .law (lists line tails heads weights ix f b) k }
 
-pub over-potentials : {s : File → FileStep} {r : Reader} {t : Taken} {room room′ : List ℕ} (tails heads weights : List ℕ) (f b : List ℤ) → SteppedOver s r t room room′
-    → SteppedPotentials s r t tails heads weights f b f b room room′
-over-potentials tails heads weights f b h = record { law = λ line k. h .law (lists line tails heads weights f b) k }
+pub over-potentials : {s : File → FileStep} {r : Reader} {t : Taken} {room room′ : List ℕ} (tails heads weights : List ℕ) (ix : Index) (f b : List ℤ) → SteppedOver s r t room room′
+    → SteppedPotentials s r t tails heads weights ix ix f b f b room room′
+over-potentials tails heads weights ix f b h = record { law = λ line k. h .law (lists line tails heads weights ix f b) k }
 
 -- ---- counts
 module _ (r : Reader) (l : Lists) (k : Kept r l) where
@@ -108,7 +108,7 @@ module _ (r : Reader) (l : Lists) (k : Kept r l) where
 -- ---- which step is taken
 -- where potentials are owed, they can be taken
 pub potentials-open : (r : Reader) (l : Lists) → Kept r l → NotLast r → r .arcs ≤ r .«arcs_read» → r .«nodes_read» < r .nodes
-    → PotentialsOpen r (l .tails) (l .heads) (l .weights) (l .forward) (l .backward)
+    → PotentialsOpen r (l .tails) (l .heads) (l .weights) (l .index) (l .forward) (l .backward)
 potentials-open r l k not-last all owed =
     let c : Counted r = k .counted in
     let y : Roomy l = k .roomy in
@@ -117,9 +117,11 @@ potentials-open r l k not-last all owed =
       arcs-read = all;
       owed = owed;
       few = c .few-nodes;
+      few-arcs = omega arith;
       in-tails = omega arith;
       in-heads = omega arith;
       in-weights = omega arith;
+      for-index = y .for-index;
       for-forward = y .for-forward;
       for-backward = y .for-backward;
     }
@@ -170,7 +172,9 @@ module _ (r : Reader) (l : Lists) where
 
   -- nothing is done
   pub stepped-nothing : (room : List ℕ) → Kept r l → Stepped (step (fileOf r l) []) (record { reader = r; written = 0 }) l l room room
-  stepped-nothing room k = record { file-is = refl; beyond = beyond-same r l; room-is = nothing-placed room; kept = k }
+  unfolding fileOf
+  stepped-nothing room k =
+      record { file-is = refl; beyond = beyond-same r l; index-is = sym (k .indexed); room-is = nothing-placed room; kept = k }
 
   -- the end of input, in its four cases
   pub end-of-ended : r .going ≡ false → [] ≡ endOfInput (fileOf r l)
@@ -190,17 +194,44 @@ module _ (r : Reader) (l : Lists) where
   end-of-whole k e h owes = rw (count-held r l k, eq-eqb _ _ h, owing-by r l k, owes) (rw e)
 
 -- ---- lengths
+-- the lists of an index that are as long as they were
+pub record AsLongIndex (ix after : Index) : Type 0 where
+  pub out-arcs : length (after .out .arcs) ≡ length (ix .out .arcs)
+  pub out-begins : length (after .out .begins) ≡ length (ix .out .begins)
+  pub in-arcs : length (after .into .arcs) ≡ length (ix .into .arcs)
+  pub in-begins : length (after .into .begins) ≡ length (ix .into .begins)
+
+-- which then have as much room
+pub as-roomy : {ix after : Index} → RoomyIndex ix → AsLongIndex ix after → RoomyIndex after
+as-roomy y e =
+    record {
+      for-out-arcs = omega (arith, e .out-arcs, y .for-out-arcs);
+      for-out-begins = omega (arith, e .out-begins, y .for-out-begins);
+      for-in-arcs = omega (arith, e .in-arcs, y .for-in-arcs);
+      for-in-begins = omega (arith, e .in-begins, y .for-in-begins);
+    }
+
 -- lists that are as long as they were, which steps one after the other keep
 pub record AsLong (l after : Lists) : Type 0 where
   pub line : length (after .line) ≡ length (l .line)
   pub tails : length (after .tails) ≡ length (l .tails)
   pub heads : length (after .heads) ≡ length (l .heads)
   pub weights : length (after .weights) ≡ length (l .weights)
+  pub index : AsLongIndex (l .index) (after .index)
   pub forward : length (after .forward) ≡ length (l .forward)
   pub backward : length (after .backward) ≡ length (l .backward)
 
 pub as-long-same : (l : Lists) → AsLong l l
-as-long-same l = record { line = refl; tails = refl; heads = refl; weights = refl; forward = refl; backward = refl }
+as-long-same l =
+    record {
+      line = refl;
+      tails = refl;
+      heads = refl;
+      weights = refl;
+      index = record { out-arcs = refl; out-begins = refl; in-arcs = refl; in-begins = refl };
+      forward = refl;
+      backward = refl;
+    }
 
 pub as-long-then : {l m n : Lists} → AsLong l m → AsLong m n → AsLong l n
 as-long-then a b =
@@ -209,6 +240,13 @@ as-long-then a b =
       tails = b .tails ∙ a .tails;
       heads = b .heads ∙ a .heads;
       weights = b .weights ∙ a .weights;
+      index =
+          record {
+            out-arcs = b .index .out-arcs ∙ a .index .out-arcs;
+            out-begins = b .index .out-begins ∙ a .index .out-begins;
+            in-arcs = b .index .in-arcs ∙ a .index .in-arcs;
+            in-begins = b .index .in-begins ∙ a .index .in-begins;
+          };
       forward = b .forward ∙ a .forward;
       backward = b .backward ∙ a .backward;
     }

@@ -8,10 +8,11 @@ use native.Mathlib.Omega.{arith}
 use native.Mathlib.Numerals.{add-one}
 use lib.IntN.{ℤ}
 use lib.ListN.{length, take, drop, set, length-set}
-use lib.Seq.{take-suc-set, drop-set-lt}
+use lib.Seq.{take-suc-set, drop-set-lt, length-take-le}
 use borrow.Author.Tests.{eq-eqb, ne-eqb, lt-ltb, le-ltb, le-leb, lt-leb}
 use Rattle.network.specs.declared.Verdict.{Verdict}
 use Rattle.network.specs.Network.{mostNodes, mostArcs}
+use Rattle.index.specs.Index.{Index}
 use Rattle.frames.specs.declared.Frame.{Frame}
 use Rattle.frames.specs.declared.Frame.the-variants.{Size, Potentials}
 use Rattle.frames.specs.Frame.{mostDigits}
@@ -19,9 +20,10 @@ use Rattle.frames.specs.Room.{Placed}
 use Rattle.frames.specs.RoomLaws.{nothing-placed}
 use Rattle.district.specs.declared.Reader.{Reader}
 use Rattle.district.specs.File.{GivenArc, addedArcs, wrong, taken, takeSize, takeArcs, takePotentials, withQuery, step, holding}
-use Rattle.district.specs.Reader.{Lists, lists, toldBy, fileOf, Counted, Roomy, Kept, Stepped, ownVerdict}
-use Rattle.district.specs.Inner.{SteppedOver, SteppedArcs, SteppedPotentials, PotentialsOpen, Read, nextReader, withVerdict}
-use Rattle.district.specs.ReaderLaws.{positive, without-size, without-potentials, beyond-same, count-tails, count-forward}
+use Rattle.district.specs.Reader.{Lists, lists, toldBy, fileOf, Counted, RoomyIndex, Roomy, Kept, Stepped, ownVerdict, indexKept}
+use Rattle.district.specs.Inner.{SteppedOver, SteppedArcs, SteppedPotentials, PotentialsOpen, Read, Indexable, indexBy, nextReader, withVerdict}
+use Rattle.district.specs.ReaderLaws.{positive, without-size, without-potentials, with-all, beyond-same, count-tails, count-forward}
+use Rattle.district.specs.IndexLaws.{can-be-built, index-waits, index-stays, index-by}
 
 -- ---- lists that grow
 -- n entries of a list were counted; with `more` after them, m entries further, nothing beyond has changed
@@ -76,10 +78,12 @@ unfolding takeSize taken fileOf toldBy nextReader
 size-taken r next n m room e none some few fewer =
     record {
       law = λ l k.
+          let owed : length (toldBy r l .forward) < n = omega (arith, count-forward r l k, k .counted, positive n some) in
           rw (ne-eqb n 0 some, le-ltb mostNodes n few, le-ltb mostArcs m fewer, e)
           (record {
             file-is = refl;
             beyond = beyond-same _ l;
+            index-is = sym (index-waits _ (l .index) owed);
             room-is = nothing-placed room;
             kept =
                 let no-arcs : r .arcs ≡ 0 = k .counted .size-first none in
@@ -99,6 +103,7 @@ size-taken r next n m room e none some few fewer =
                   judged =
                       k .judged ∙ (without-size r _ _ _ _ _ none
                       ∙ sym (without-potentials (sized (nextReader r) n m) _ _ _ _ _ (omega (arith, positive n some))));
+                  indexed = index-waits _ (l .index) owed;
                 };
           });
     }
@@ -136,17 +141,19 @@ pub arcs-taken : (r next : Reader) (g : Frame) (m : ℕ) {tails heads weights ta
 unfolding takeArcs taken fileOf toldBy nextReader
 arcs-taken r next g m {tails} {heads} {weights} {tails′} {heads′} {weights′} room e count some owed t h w =
     record {
-      law = λ line f b k.
-          let l : Lists = lists line tails heads weights f b in
+      law = λ line ix f b k.
+          let l : Lists = lists line tails heads weights ix f b in
           let c : Counted r = k .counted in
           let y : Roomy l = k .roomy in
           let any : 0 < length (addedArcs g) = omega arith in
           let unread : r .«nodes_read» < r .nodes = omega (arith, c .arcs-first (omega arith), sized-before-arcs r c (omega arith)) in
+          let waits : length (toldBy r l .forward) < r .nodes = omega (arith, count-forward r l k) in
           let fit : length (addedArcs g) ≤ r .arcs - length (toldBy r l .tails) = omega (arith, count-tails r l k) in
           rw (lt-ltb _ _ any, le-leb _ _ fit, e)
           (record {
             file-is = rw (t .front, h .front, w .front);
             beyond = record { line = refl; tails = t .back; heads = h .back; weights = w .back; forward = refl; backward = refl };
+            index-is = sym (index-waits _ ix waits);
             room-is = nothing-placed room;
             kept =
                 record {
@@ -166,12 +173,14 @@ arcs-taken r next g m {tails} {heads} {weights} {tails′} {heads′} {weights�
                         for-tails = omega (arith, t .size, y .for-tails);
                         for-heads = omega (arith, h .size, y .for-heads);
                         for-weights = omega (arith, w .size, y .for-weights);
+                        for-index = y .for-index;
                         for-forward = y .for-forward;
                         for-backward = y .for-backward;
                       };
                   judged =
                       k .judged ∙ (without-potentials r _ _ _ _ _ unread
                       ∙ sym (without-potentials (with-arcs (nextReader r) (r .«arcs_read» + m)) _ _ _ _ _ unread));
+                  indexed = index-waits _ ix waits;
                 };
           });
     }
@@ -193,14 +202,14 @@ with-nodes r n =
     }
 
 -- with a node's potentials put, as many entries as are counted are still there
-pub read-next : (r next : Reader) (tails heads weights : List ℕ) (forward backward forward′ backward′ : List ℤ)
+pub read-next : (r next : Reader) (tails heads weights : List ℕ) (ix : Index) (forward backward forward′ backward′ : List ℤ)
     → next ≡ nextReader r
-    → PotentialsOpen r tails heads weights forward backward
+    → PotentialsOpen r tails heads weights ix forward backward
     → length forward′ ≡ length forward
     → length backward′ ≡ length backward
     → Read (with-nodes next (r .«nodes_read» + 1)) tails heads weights forward′ backward′
 unfolding nextReader
-read-next r next tails heads weights forward backward forward′ backward′ e owing f b =
+read-next r next tails heads weights ix forward backward forward′ backward′ e owing f b =
     rw e
     (record {
       some = omega (arith, owing .owed);
@@ -211,7 +220,37 @@ read-next r next tails heads weights forward backward forward′ backward′ e o
       in-backward = omega (arith, b, owing .owed, owing .few, owing .for-backward);
     })
 
-pub potentials-taken : (r next : Reader) (v : ℕ) (h k : ℤ) (own : Verdict) {tails heads weights : List ℕ} {forward backward forward′ backward′ : List ℤ} (room : List ℕ)
+-- the network is judged then, and its index can be built if it is whole and accepted
+pub indexable-next : (r next judged : Reader) (own : Verdict) (tails heads weights : List ℕ) (ix : Index) (forward backward forward′ backward′ : List ℤ)
+    → next ≡ nextReader r
+    → judged ≡ withVerdict (with-nodes next (r .«nodes_read» + 1)) own
+    → PotentialsOpen r tails heads weights ix forward backward
+    → own ≡ ownVerdict (with-nodes next (r .«nodes_read» + 1)) tails heads weights forward′ backward′
+    → Indexable judged tails heads weights ix
+unfolding nextReader withVerdict
+indexable-next r next judged own tails heads weights ix forward backward forward′ backward′ e same owing own-is =
+    rw (same, e)
+    (record {
+      in-tails = owing .in-tails;
+      in-heads = owing .in-heads;
+      in-weights = owing .in-weights;
+      sound = λ each accepted.
+          can-be-built _ ix (owing .few) (omega (arith, length-take-le (r .«arcs_read») tails (owing .in-tails), owing .few-arcs)) (owing .for-index) _ _
+          (sym (with-all (with-nodes (nextReader r) (r .«nodes_read» + 1)) tails heads weights forward′ backward′ (record { some = omega (arith, owing .owed); each = each })) ∙ (rw e at (sym own-is) ∙ accepted));
+    })
+
+-- the index lists then hold what they are to hold
+index-next : (r : Reader) (own : Verdict) (line tails heads weights : List ℕ) (ix ix′ : Index) (forward backward : List ℤ)
+    → r .«nodes_read» + 1 ≤ length forward
+    → 0 < r .nodes
+    → own ≡ ownVerdict (with-nodes (nextReader r) (r .«nodes_read» + 1)) tails heads weights forward backward
+    → ix′ ≡ indexBy (withVerdict (with-nodes (nextReader r) (r .«nodes_read» + 1)) own) tails heads weights ix
+    → ix′ ≡ indexKept (toldBy (withVerdict (with-nodes (nextReader r) (r .«nodes_read» + 1)) own) (lists line tails heads weights ix′ forward backward)) ix
+unfolding nextReader withVerdict ownVerdict
+index-next r own line tails heads weights ix ix′ forward backward long some judged built =
+    built ∙ index-by (withVerdict (with-nodes (nextReader r) (r .«nodes_read» + 1)) own) (lists line tails heads weights ix′ forward backward) (length-take-le _ _ long) judged ix some
+
+pub potentials-taken : (r next : Reader) (v : ℕ) (h k : ℤ) (own : Verdict) {tails heads weights : List ℕ} {ix ix′ : Index} {forward backward forward′ backward′ : List ℤ} (room : List ℕ)
     → next ≡ nextReader r
     → v ≡ r .«nodes_read»
     → r .arcs ≤ r .«arcs_read»
@@ -219,19 +258,23 @@ pub potentials-taken : (r next : Reader) (v : ℕ) (h k : ℤ) (own : Verdict) {
     → Grown forward forward′ (r .«nodes_read») 1 (h ∷ [])
     → Grown backward backward′ (r .«nodes_read») 1 (k ∷ [])
     → own ≡ ownVerdict (with-nodes next (r .«nodes_read» + 1)) tails heads weights forward′ backward′
-    → SteppedPotentials (λ f. takePotentials f (Potentials v h k)) r (record { reader = withVerdict (with-nodes next (r .«nodes_read» + 1)) own; written = 0 }) tails heads weights forward backward forward′ backward′ room room
+    → ix′ ≡ indexBy (withVerdict (with-nodes next (r .«nodes_read» + 1)) own) tails heads weights ix
+    → RoomyIndex ix′
+    → SteppedPotentials (λ f. takePotentials f (Potentials v h k)) r (record { reader = withVerdict (with-nodes next (r .«nodes_read» + 1)) own; written = 0 }) tails heads weights ix ix′ forward backward forward′ backward′ room room
 unfolding takePotentials taken fileOf toldBy nextReader ownVerdict withVerdict
-potentials-taken r next v h k own {tails} {heads} {weights} {forward} {backward} {forward′} {backward′} room e same all owed p q judged =
+potentials-taken r next v h k own {tails} {heads} {weights} {ix} {ix′} {forward} {backward} {forward′} {backward′} room e same all owed p q judged built room-left =
     record {
       law = λ line kept.
-          let l : Lists = lists line tails heads weights forward backward in
+          let l : Lists = lists line tails heads weights ix forward backward in
           let c : Counted r = kept .counted in
           let y : Roomy l = kept .roomy in
           let its : v ≡ length (toldBy r l .forward) = same ∙ sym (count-forward r l kept) in
+          let kept-index = index-next r own line tails heads weights ix ix′ forward′ backward′ (omega (arith, p .size, c .few-nodes, y .for-forward)) (omega arith) (rw e at judged) (rw e at built) in
           rw (eq-eqb _ _ its, e)
           (record {
             file-is = rw (p .front, q .front);
             beyond = record { line = refl; tails = refl; heads = refl; weights = refl; forward = p .back; backward = q .back };
+            index-is = rw (← p .front, ← q .front) kept-index;
             room-is = nothing-placed room;
             kept =
                 record {
@@ -251,10 +294,12 @@ potentials-taken r next v h k own {tails} {heads} {weights} {forward} {backward}
                         for-tails = y .for-tails;
                         for-heads = y .for-heads;
                         for-weights = y .for-weights;
+                        for-index = room-left;
                         for-forward = omega (arith, p .size, y .for-forward);
                         for-backward = omega (arith, q .size, y .for-backward);
                       };
                   judged = judged ∙ ap (λ (x : Reader). ownVerdict (with-nodes x (r .«nodes_read» + 1)) tails heads weights forward′ backward′) e;
+                  indexed = index-stays _ ix ix′ kept-index;
                 };
           });
     }
@@ -277,13 +322,14 @@ with-query r =
 
 pub query-taken : (r next : Reader) (l : Lists) (printed room after : List ℕ) (written : ℕ) → next ≡ nextReader r → Kept r l → Placed printed room after written
     → Stepped (taken (fileOf r l) (withQuery (toldBy r l)) printed) (record { reader = with-query next; written = written }) l l room after
-unfolding taken fileOf toldBy nextReader ownVerdict
+unfolding taken fileOf toldBy nextReader ownVerdict indexKept
 query-taken r next l printed room after written e k p =
     let c : Counted r = k .counted in
     rw e
     (record {
       file-is = refl;
       beyond = beyond-same _ l;
+      index-is = sym (k .indexed);
       room-is = p;
       kept =
           record {
@@ -299,6 +345,7 @@ query-taken r next l printed room after written e k p =
                 };
             roomy = k .roomy;
             judged = k .judged;
+            indexed = k .indexed;
           };
     })
 
@@ -318,18 +365,19 @@ with-held r n =
       asked = r .asked;
     }
 
-pub byte-held : (r : Reader) (b : ℕ) (line line′ tails heads weights : List ℕ) (f k : List ℤ) (room : List ℕ)
-    → Kept r (lists line tails heads weights f k)
+pub byte-held : (r : Reader) (b : ℕ) (line line′ tails heads weights : List ℕ) (ix : Index) (f k : List ℤ) (room : List ℕ)
+    → Kept r (lists line tails heads weights ix f k)
     → r .held < mostDigits
     → Grown line line′ (r .held) 1 (b ∷ [])
-    → Stepped (step (holding (fileOf r (lists line tails heads weights f k)) b) []) (record { reader = with-held r (r .held + 1); written = 0 }) (lists line tails heads weights f k) (lists line′ tails heads weights f k) room room
+    → Stepped (step (holding (fileOf r (lists line tails heads weights ix f k)) b) []) (record { reader = with-held r (r .held + 1); written = 0 }) (lists line tails heads weights ix f k) (lists line′ tails heads weights ix f k) room room
 unfolding fileOf toldBy ownVerdict
-byte-held r b line line′ tails heads weights f k room kept short grown =
+byte-held r b line line′ tails heads weights ix f k room kept short grown =
     let c : Counted r = kept .counted in
-    let y : Roomy (lists line tails heads weights f k) = kept .roomy in
+    let y : Roomy (lists line tails heads weights ix f k) = kept .roomy in
     record {
       file-is = rw (grown .front);
       beyond = record { line = grown .back; tails = refl; heads = refl; weights = refl; forward = refl; backward = refl };
+      index-is = sym (kept .indexed);
       room-is = nothing-placed room;
       kept =
           record {
@@ -349,10 +397,12 @@ byte-held r b line line′ tails heads weights f k room kept short grown =
                   for-tails = y .for-tails;
                   for-heads = y .for-heads;
                   for-weights = y .for-weights;
+                  for-index = y .for-index;
                   for-forward = y .for-forward;
                   for-backward = y .for-backward;
                 };
             judged = kept .judged;
+            indexed = kept .indexed;
           };
     }
 

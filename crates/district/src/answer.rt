@@ -5,8 +5,10 @@ ghost use mathlib.Core.Bool.{_&&_};
 ghost use mathlib.Core.List.{[], _∷_};
 ghost use Rattle.network.specs.Network.{network};
 ghost use Rattle.network.specs.Query.{Query, query};
-ghost use Rattle.network.specs.Refusal.{firstRefusal, tripVerdict, queryVerdict};
+ghost use Rattle.network.specs.Refusal.{firstRefusal, tripVerdict};
 ghost use Rattle.nba.specs.Result.{turnsGiven};
+ghost use Rattle.index.specs.Index.{index};
+ghost use Rattle.index.specs.Table.{indexedVerdict};
 ghost use Rattle.frames.specs.Frame.{patternOf};
 ghost use Rattle.frames.specs.Room.{Placed};
 ghost use Rattle.district.specs.File.{workRoom, queryLines, takeQuery};
@@ -41,12 +43,17 @@ fn verdict_on(own: Verdict, nodes: u16, start: u16, end: u16, pattern: &[u8]) ->
     own
 }
 
-// The lines of the answer of an accepted query that gives so many turns: it is searched.
+// The lines of the answer of an accepted query that gives so many turns: it is searched, over the index that was built with the
+// network and is not tested again.
 fn write_found(
     nodes: u16,
     tails: &[u16],
     heads: &[u16],
     weights: &[u32],
+    out_arcs: &[u16],
+    out_begins: &[u16],
+    in_arcs: &[u16],
+    in_begins: &[u16],
     forward: &[i32],
     backward: &[i32],
     start: u16,
@@ -55,7 +62,7 @@ fn write_found(
     turns: u16,
     room: &mut [u8],
 ) -> usize
-    requires { ⌜ queryVerdict (query (network nodes (now tails) (now heads) (now weights)) (now forward) (now backward) start end (now pattern)) workRoom ≡ Verdict.Accepted ⌝ }
+    requires { ⌜ indexedVerdict (query (network nodes (now tails) (now heads) (now weights)) (now forward) (now backward) start end (now pattern)) (index (now «out_arcs») (now «out_begins») (now «in_arcs») (now «in_begins»)) workRoom ≡ Verdict.Accepted ⌝ }
     ensures { λ r. ⌜ Placed (queryLines (Cap.AtMost turns) (query (network nodes (now (tails .entry)) (now (heads .entry)) (now (weights .entry))) (now (forward .entry)) (now (backward .entry)) start end (now (pattern .entry)))) (now (room .entry)) (now (room .exit)) r ⌝ }
 {
     let mut start_labels = [0u32; MOST_NODES];
@@ -69,6 +76,10 @@ fn write_found(
         tails,
         heads,
         weights,
+        out_arcs,
+        out_begins,
+        in_arcs,
+        in_begins,
         forward,
         backward,
         start,
@@ -82,7 +93,7 @@ fn write_found(
         &mut states,
         &mut path,
     );
-    frames::write_answer(room, answer, &path)
+    answers::write_answer(room, answer, &path)
 }
 
 // The lines of the answer of a query that gives so many turns, on a network whose own verdict is known.
@@ -92,6 +103,10 @@ fn write_lines(
     tails: &[u16],
     heads: &[u16],
     weights: &[u32],
+    out_arcs: &[u16],
+    out_begins: &[u16],
+    in_arcs: &[u16],
+    in_begins: &[u16],
     forward: &[i32],
     backward: &[i32],
     start: u16,
@@ -100,7 +115,7 @@ fn write_lines(
     turns: u16,
     room: &mut [u8],
 ) -> usize
-    requires { ⌜ Known own (network nodes (now tails) (now heads) (now weights)) (now forward) (now backward) ⌝ }
+    requires { ⌜ Known own (network nodes (now tails) (now heads) (now weights)) (index (now «out_arcs») (now «out_begins») (now «in_arcs») (now «in_begins»)) (now forward) (now backward) ⌝ }
     ensures { λ r. ⌜ Placed (queryLines (Cap.AtMost turns) (query (network nodes (now (tails .entry)) (now (heads .entry)) (now (weights .entry))) (now (forward .entry)) (now (backward .entry)) start end (now (pattern .entry)))) (now (room .entry)) (now (room .exit)) r ⌝ }
 {
     let verdict = verdict_on(own, nodes, start, end, pattern);
@@ -112,6 +127,10 @@ fn write_lines(
         tails,
         heads,
         weights,
+        out_arcs,
+        out_begins,
+        in_arcs,
+        in_begins,
         forward,
         backward,
         start,
@@ -129,6 +148,10 @@ fn answer_query(
     tails: &[u16],
     heads: &[u16],
     weights: &[u32],
+    out_arcs: &[u16],
+    out_begins: &[u16],
+    in_arcs: &[u16],
+    in_begins: &[u16],
     forward: &[i32],
     backward: &[i32],
     start: u16,
@@ -137,7 +160,7 @@ fn answer_query(
     turns: u16,
     room: &mut [u8],
 ) -> usize
-    requires { ⌜ Known own (network nodes (now tails) (now heads) (now weights)) (now forward) (now backward) ⌝ }
+    requires { ⌜ Known own (network nodes (now tails) (now heads) (now weights)) (index (now «out_arcs») (now «out_begins») (now «in_arcs») (now «in_begins»)) (now forward) (now backward) ⌝ }
     ensures { λ r. ⌜ Placed (queryLines (Cap.AtMost turns) (query (network nodes (now (tails .entry)) (now (heads .entry)) (now (weights .entry))) (now (forward .entry)) (now (backward .entry)) start end (patternOf (now (line .entry))))) (now (room .entry)) (now (room .exit)) r ⌝ }
 {
     let mut entries = [0u8; frames::MOST_PATTERN];
@@ -148,6 +171,10 @@ fn answer_query(
         tails,
         heads,
         weights,
+        out_arcs,
+        out_begins,
+        in_arcs,
+        in_begins,
         forward,
         backward,
         start,
@@ -187,14 +214,18 @@ pub fn take_query(
     tails: &[u16],
     heads: &[u16],
     weights: &[u32],
+    out_arcs: &[u16],
+    out_begins: &[u16],
+    in_arcs: &[u16],
+    in_begins: &[u16],
     forward: &[i32],
     backward: &[i32],
     room: &mut [u8],
 ) -> Taken
     requires { ⌜ NotLast reader ⌝ }
     requires { ⌜ AllRead reader ⌝ }
-    requires { ⌜ Kept reader (lists (now line) (now tails) (now heads) (now weights) (now forward) (now backward)) ⌝ }
-    ensures { λ r. ⌜ Stepped (takeQuery (fileOf reader (lists (now (line .entry)) (now (tails .entry)) (now (heads .entry)) (now (weights .entry)) (now (forward .entry)) (now (backward .entry)))) frame) r (lists (now (line .entry)) (now (tails .entry)) (now (heads .entry)) (now (weights .entry)) (now (forward .entry)) (now (backward .entry))) (lists (now (line .entry)) (now (tails .entry)) (now (heads .entry)) (now (weights .entry)) (now (forward .entry)) (now (backward .entry))) (now (room .entry)) (now (room .exit)) ⌝ }
+    requires { ⌜ Kept reader (lists (now line) (now tails) (now heads) (now weights) (index (now «out_arcs») (now «out_begins») (now «in_arcs») (now «in_begins»)) (now forward) (now backward)) ⌝ }
+    ensures { λ r. ⌜ Stepped (takeQuery (fileOf reader (lists (now (line .entry)) (now (tails .entry)) (now (heads .entry)) (now (weights .entry)) (index (now («out_arcs» .entry)) (now («out_begins» .entry)) (now («in_arcs» .entry)) (now («in_begins» .entry))) (now (forward .entry)) (now (backward .entry)))) frame) r (lists (now (line .entry)) (now (tails .entry)) (now (heads .entry)) (now (weights .entry)) (index (now («out_arcs» .entry)) (now («out_begins» .entry)) (now («in_arcs» .entry)) (now («in_begins» .entry))) (now (forward .entry)) (now (backward .entry))) (lists (now (line .entry)) (now (tails .entry)) (now (heads .entry)) (now (weights .entry)) (index (now («out_arcs» .entry)) (now («out_begins» .entry)) (now («in_arcs» .entry)) (now («in_begins» .entry))) (now (forward .entry)) (now (backward .entry))) (now (room .entry)) (now (room .exit)) ⌝ }
 {
     let Frame::Query {
         start,
@@ -219,6 +250,10 @@ pub fn take_query(
         &tails[..arcs],
         &heads[..arcs],
         &weights[..arcs],
+        out_arcs,
+        out_begins,
+        in_arcs,
+        in_begins,
         &forward[..nodes],
         &backward[..nodes],
         start,

@@ -4,11 +4,12 @@ ghost use mathlib.Core.Path.{_≡_};
 ghost use mathlib.Core.List.{[]};
 ghost use Prim.Native.Nat.{_<_};
 ghost use lib.ListN.{length, set};
+ghost use Rattle.index.specs.Index.{index};
 ghost use Rattle.frames.specs.AnswerLines.{answerLines};
 ghost use Rattle.frames.specs.Room.{Placed};
 ghost use Rattle.district.specs.File.{refused, wrong, takeSize, takeArcs, takePotentials, takeFrame, takeLine, brokenLine};
 ghost use Rattle.district.specs.Reader.{lists, fileOf, Kept, Stepped, ownVerdict};
-ghost use Rattle.district.specs.Inner.{nextReader, SteppedOver, SteppedArcs, SteppedPotentials, NotLast, ArcsOpen, PotentialsOpen, Read, withVerdict, NoArc};
+ghost use Rattle.district.specs.Inner.{nextReader, SteppedOver, SteppedArcs, SteppedPotentials, NotLast, ArcsOpen, PotentialsOpen, Read, withVerdict, Indexable, indexBy, NoArc};
 use crate::LAST_LINE;
 use crate::Reader;
 use crate::Taken;
@@ -23,7 +24,7 @@ pub fn write_refusal(cause: Cause, room: &mut [u8]) -> usize
     ensures { λ r. ⌜ Placed (answerLines (Answer.Refused cause) []) (now (room .entry)) (now (room .exit)) r ⌝ }
 {
     let no_path = [0u16; 1];
-    frames::write_answer(room, Answer::Refused(cause), &no_path)
+    answers::write_answer(room, Answer::Refused(cause), &no_path)
 }
 
 // A file refusal: its line, and the file does not go on.
@@ -205,20 +206,59 @@ fn with_verdict(reader: Reader, verdict: Verdict) -> Reader
     }
 }
 
+// The index of the network, which is built once: with its last potentials, and where the network itself is accepted. The build
+// is not refused then: the arcs have passed, and the lists have room.
+fn build_index(
+    reader: Reader,
+    tails: &[u16],
+    heads: &[u16],
+    weights: &[u32],
+    out_arcs: &mut [u16],
+    out_begins: &mut [u16],
+    in_arcs: &mut [u16],
+    in_begins: &mut [u16],
+)
+    requires { ⌜ Indexable reader (now tails) (now heads) (now weights) (index (now «out_arcs») (now «out_begins») (now «in_arcs») (now «in_begins»)) ⌝ }
+    ensures { λ _. ⌜ index (now («out_arcs» .exit)) (now («out_begins» .exit)) (now («in_arcs» .exit)) (now («in_begins» .exit)) ≡ indexBy reader (now (tails .entry)) (now (heads .entry)) (now (weights .entry)) (index (now («out_arcs» .entry)) (now («out_begins» .entry)) (now («in_arcs» .entry)) (now («in_begins» .entry))) ⌝ }
+{
+    if reader.nodes_read < reader.nodes as usize {
+        return;
+    }
+    let own = reader.verdict;
+    let Verdict::Accepted = own else {
+        return;
+    };
+    let arcs = reader.arcs_read;
+    index::build(
+        reader.nodes,
+        &tails[..arcs],
+        &heads[..arcs],
+        &weights[..arcs],
+        out_arcs,
+        out_begins,
+        in_arcs,
+        in_begins,
+    );
+}
+
 // A 03 where potentials are owed: those of the next node, and of no other. With the last of them the network is whole, and
-// judged.
+// judged, and its index is built.
 fn take_potentials(
     reader: Reader,
     frame: Frame,
     tails: &[u16],
     heads: &[u16],
     weights: &[u32],
+    out_arcs: &mut [u16],
+    out_begins: &mut [u16],
+    in_arcs: &mut [u16],
+    in_begins: &mut [u16],
     forward: &mut [i32],
     backward: &mut [i32],
     room: &mut [u8],
 ) -> Taken
-    requires { ⌜ PotentialsOpen reader (now tails) (now heads) (now weights) (now forward) (now backward) ⌝ }
-    ensures { λ r. ⌜ SteppedPotentials (λ f. takePotentials f frame) reader r (now (tails .entry)) (now (heads .entry)) (now (weights .entry)) (now (forward .entry)) (now (backward .entry)) (now (forward .exit)) (now (backward .exit)) (now (room .entry)) (now (room .exit)) ⌝ }
+    requires { ⌜ PotentialsOpen reader (now tails) (now heads) (now weights) (index (now «out_arcs») (now «out_begins») (now «in_arcs») (now «in_begins»)) (now forward) (now backward) ⌝ }
+    ensures { λ r. ⌜ SteppedPotentials (λ f. takePotentials f frame) reader r (now (tails .entry)) (now (heads .entry)) (now (weights .entry)) (index (now («out_arcs» .entry)) (now («out_begins» .entry)) (now («in_arcs» .entry)) (now («in_begins» .entry))) (index (now («out_arcs» .exit)) (now («out_begins» .exit)) (now («in_arcs» .exit)) (now («in_begins» .exit))) (now (forward .entry)) (now (backward .entry)) (now (forward .exit)) (now (backward .exit)) (now (room .entry)) (now (room .exit)) ⌝ }
 {
     let Frame::Potentials { node, h, k } = frame else {
         return refuse_frame(reader, frame, room);
@@ -233,6 +273,16 @@ fn take_potentials(
     next.nodes_read = at + 1;
     let own = own_verdict(next, tails, heads, weights, forward, backward);
     let judged = with_verdict(next, own);
+    build_index(
+        judged,
+        tails,
+        heads,
+        weights,
+        out_arcs,
+        out_begins,
+        in_arcs,
+        in_begins,
+    );
     Taken {
         reader: judged,
         written: 0,
@@ -247,13 +297,17 @@ fn take_frame(
     tails: &mut [u16],
     heads: &mut [u16],
     weights: &mut [u32],
+    out_arcs: &mut [u16],
+    out_begins: &mut [u16],
+    in_arcs: &mut [u16],
+    in_begins: &mut [u16],
     forward: &mut [i32],
     backward: &mut [i32],
     room: &mut [u8],
 ) -> Taken
     requires { ⌜ NotLast reader ⌝ }
-    requires { ⌜ Kept reader (lists (now line) (now tails) (now heads) (now weights) (now forward) (now backward)) ⌝ }
-    ensures { λ r. ⌜ Stepped (takeFrame (fileOf reader (lists (now (line .entry)) (now (tails .entry)) (now (heads .entry)) (now (weights .entry)) (now (forward .entry)) (now (backward .entry)))) frame) r (lists (now (line .entry)) (now (tails .entry)) (now (heads .entry)) (now (weights .entry)) (now (forward .entry)) (now (backward .entry))) (lists (now (line .entry)) (now (tails .exit)) (now (heads .exit)) (now (weights .exit)) (now (forward .exit)) (now (backward .exit))) (now (room .entry)) (now (room .exit)) ⌝ }
+    requires { ⌜ Kept reader (lists (now line) (now tails) (now heads) (now weights) (index (now «out_arcs») (now «out_begins») (now «in_arcs») (now «in_begins»)) (now forward) (now backward)) ⌝ }
+    ensures { λ r. ⌜ Stepped (takeFrame (fileOf reader (lists (now (line .entry)) (now (tails .entry)) (now (heads .entry)) (now (weights .entry)) (index (now («out_arcs» .entry)) (now («out_begins» .entry)) (now («in_arcs» .entry)) (now («in_begins» .entry))) (now (forward .entry)) (now (backward .entry)))) frame) r (lists (now (line .entry)) (now (tails .entry)) (now (heads .entry)) (now (weights .entry)) (index (now («out_arcs» .entry)) (now («out_begins» .entry)) (now («in_arcs» .entry)) (now («in_begins» .entry))) (now (forward .entry)) (now (backward .entry))) (lists (now (line .entry)) (now (tails .exit)) (now (heads .exit)) (now (weights .exit)) (index (now («out_arcs» .exit)) (now («out_begins» .exit)) (now («in_arcs» .exit)) (now («in_begins» .exit))) (now (forward .exit)) (now (backward .exit))) (now (room .entry)) (now (room .exit)) ⌝ }
 {
     if reader.nodes == 0 {
         return take_size(reader, frame, room);
@@ -268,6 +322,10 @@ fn take_frame(
             tails,
             heads,
             weights,
+            out_arcs,
+            out_begins,
+            in_arcs,
+            in_begins,
             forward,
             backward,
             room,
@@ -280,6 +338,10 @@ fn take_frame(
         tails,
         heads,
         weights,
+        out_arcs,
+        out_begins,
+        in_arcs,
+        in_begins,
         forward,
         backward,
         room,
@@ -293,12 +355,16 @@ pub fn take_line(
     tails: &mut [u16],
     heads: &mut [u16],
     weights: &mut [u32],
+    out_arcs: &mut [u16],
+    out_begins: &mut [u16],
+    in_arcs: &mut [u16],
+    in_begins: &mut [u16],
     forward: &mut [i32],
     backward: &mut [i32],
     room: &mut [u8],
 ) -> Taken
-    requires { ⌜ Kept reader (lists (now line) (now tails) (now heads) (now weights) (now forward) (now backward)) ⌝ }
-    ensures { λ r. ⌜ Stepped (takeLine (fileOf reader (lists (now (line .entry)) (now (tails .entry)) (now (heads .entry)) (now (weights .entry)) (now (forward .entry)) (now (backward .entry))))) r (lists (now (line .entry)) (now (tails .entry)) (now (heads .entry)) (now (weights .entry)) (now (forward .entry)) (now (backward .entry))) (lists (now (line .entry)) (now (tails .exit)) (now (heads .exit)) (now (weights .exit)) (now (forward .exit)) (now (backward .exit))) (now (room .entry)) (now (room .exit)) ⌝ }
+    requires { ⌜ Kept reader (lists (now line) (now tails) (now heads) (now weights) (index (now «out_arcs») (now «out_begins») (now «in_arcs») (now «in_begins»)) (now forward) (now backward)) ⌝ }
+    ensures { λ r. ⌜ Stepped (takeLine (fileOf reader (lists (now (line .entry)) (now (tails .entry)) (now (heads .entry)) (now (weights .entry)) (index (now («out_arcs» .entry)) (now («out_begins» .entry)) (now («in_arcs» .entry)) (now («in_begins» .entry))) (now (forward .entry)) (now (backward .entry))))) r (lists (now (line .entry)) (now (tails .entry)) (now (heads .entry)) (now (weights .entry)) (index (now («out_arcs» .entry)) (now («out_begins» .entry)) (now («in_arcs» .entry)) (now («in_begins» .entry))) (now (forward .entry)) (now (backward .entry))) (lists (now (line .entry)) (now (tails .exit)) (now (heads .exit)) (now (weights .exit)) (index (now («out_arcs» .exit)) (now («out_begins» .exit)) (now («in_arcs» .exit)) (now («in_begins» .exit))) (now (forward .exit)) (now (backward .exit))) (now (room .entry)) (now (room .exit)) ⌝ }
 {
     if reader.line == LAST_LINE {
         return refuse(reader, Cause::MisplacedLine(LAST_LINE), room);
@@ -312,6 +378,10 @@ pub fn take_line(
         tails,
         heads,
         weights,
+        out_arcs,
+        out_begins,
+        in_arcs,
+        in_begins,
         forward,
         backward,
         room,

@@ -2,6 +2,7 @@
 // that hold the line and the network are lent to each step and kept between them. A query is answered as soon as its line
 // ends. What a file is answered is defined in specs/File.antt; each step here does what that definition says.
 ghost use mathlib.Core.Path.{_≡_};
+ghost use Rattle.index.specs.Index.{index};
 ghost use Rattle.district.specs.File.{takeByte};
 ghost use Rattle.district.specs.Reader.{startReader, lists, fileOf, Kept, Stepped, Reached, Ended};
 ghost use Rattle.district.specs.Inner.{owesBy};
@@ -72,18 +73,35 @@ pub fn take_byte(
     tails: &mut [u16],
     heads: &mut [u16],
     weights: &mut [u32],
+    out_arcs: &mut [u16],
+    out_begins: &mut [u16],
+    in_arcs: &mut [u16],
+    in_begins: &mut [u16],
     forward: &mut [i32],
     backward: &mut [i32],
     room: &mut [u8],
 ) -> Taken
-    requires { ⌜ Kept reader (lists (now line) (now tails) (now heads) (now weights) (now forward) (now backward)) ⌝ }
-    ensures { λ r. ⌜ Stepped (takeByte (fileOf reader (lists (now (line .entry)) (now (tails .entry)) (now (heads .entry)) (now (weights .entry)) (now (forward .entry)) (now (backward .entry)))) byte) r (lists (now (line .entry)) (now (tails .entry)) (now (heads .entry)) (now (weights .entry)) (now (forward .entry)) (now (backward .entry))) (lists (now (line .exit)) (now (tails .exit)) (now (heads .exit)) (now (weights .exit)) (now (forward .exit)) (now (backward .exit))) (now (room .entry)) (now (room .exit)) ⌝ }
+    requires { ⌜ Kept reader (lists (now line) (now tails) (now heads) (now weights) (index (now «out_arcs») (now «out_begins») (now «in_arcs») (now «in_begins»)) (now forward) (now backward)) ⌝ }
+    ensures { λ r. ⌜ Stepped (takeByte (fileOf reader (lists (now (line .entry)) (now (tails .entry)) (now (heads .entry)) (now (weights .entry)) (index (now («out_arcs» .entry)) (now («out_begins» .entry)) (now («in_arcs» .entry)) (now («in_begins» .entry))) (now (forward .entry)) (now (backward .entry)))) byte) r (lists (now (line .entry)) (now (tails .entry)) (now (heads .entry)) (now (weights .entry)) (index (now («out_arcs» .entry)) (now («out_begins» .entry)) (now («in_arcs» .entry)) (now («in_begins» .entry))) (now (forward .entry)) (now (backward .entry))) (lists (now (line .exit)) (now (tails .exit)) (now (heads .exit)) (now (weights .exit)) (index (now («out_arcs» .exit)) (now («out_begins» .exit)) (now («in_arcs» .exit)) (now («in_begins» .exit))) (now (forward .exit)) (now (backward .exit))) (now (room .entry)) (now (room .exit)) ⌝ }
 {
     if !reader.going {
         return Taken { reader, written: 0 };
     }
     if byte == LINE_FEED {
-        return frame::take_line(reader, line, tails, heads, weights, forward, backward, room);
+        return frame::take_line(
+            reader,
+            line,
+            tails,
+            heads,
+            weights,
+            out_arcs,
+            out_begins,
+            in_arcs,
+            in_begins,
+            forward,
+            backward,
+            room,
+        );
     }
     let at = reader.held;
     if at < frames::MOST_DIGITS {

@@ -3,22 +3,40 @@
 use mathlib.Core.Path.{_≡_, refl, sym, ap, _∙_}
 use mathlib.Core.Bool.{cond}
 use mathlib.Core.List.{List, [], _∷_, _++_, append-assoc, append-nil}
-use Prim.Native.Nat.{ℕ, suc, _+_, _*_, _/_, _<_, _^_}
+use Prim.Native.Nat.{ℕ, zero, suc, _+_, _*_, _/_, _<_, _^_}
 use native.Mathlib.Omega.{arith}
 use lib.Dec.{eqb}
-use lib.ListN.{length, take, drop, replicate, getD, length-append}
+use lib.ListN.{length, take, drop, replicate, getD, length-append, length-replicate}
 use lib.Seq.{drop-at}
 use Rattle.network.specs.Answer.{numberOf, placeOf, figuresOf, kindOf, valuesOf}
 use Rattle.network.specs.declared.Figures.{Figures}
 use Rattle.network.specs.declared.Cause.{Cause}
-use Rattle.network.specs.declared.Cause.the-variants.{NodeCount, ArcLists, PotentialLists, StartOrEnd, Pattern, Room, BadArc, BadPotential, Inconsistent, UnsoundLine, MisplacedLine}
+use Rattle.network.specs.declared.Cause.the-variants.{NodeCount, ArcLists, PotentialLists, StartOrEnd, Pattern, Room, BadArc, BadPotential, Inconsistent, UnsoundLine, MisplacedLine, NoSuchArc, WrongIndex}
 use Rattle.network.specs.declared.Answer.{Answer}
 use Rattle.network.specs.declared.Answer.the-variants.{Route, NoRoute, Refused, Provisional, Undecided}
-use Rattle.frames.specs.Digits.{numberAt, digitsOf}
+use Rattle.frames.specs.Digits.{numberAt, digitsOf, spelled}
 use Rattle.frames.specs.FieldLaws.{fieldsAt, total, InFields, none, one, fields-roundtrip, length-digits}
-use Rattle.frames.specs.LineSteps.{length-line, length-path}
 use Rattle.frames.specs.FrameLine.{Below}
-use Rattle.frames.specs.AnswerLines.{lineOf, widthsOf, answerLine, pathLine, answerLines}
+use Rattle.frames.specs.AnswerLines.{lineOf, widthsOf, answerLine, nodesLine, pathLine, answerLines}
+
+-- the bytes of a line are those of its fields and a line feed
+pub length-line : (ws vs : List ℕ) → length ws ≡ length vs → length (lineOf ws vs) ≡ total ws + 1
+unfolding lineOf spelled
+length-line [] vs e = refl
+length-line (w ∷ ws) [] e = absurd (omega arith)
+length-line (w ∷ ws) (v ∷ vs) e =
+    let rest : length (lineOf ws vs) ≡ total ws + 1 = length-line ws vs (omega arith) in
+    rw (append-assoc, length-append, length-digits) (omega arith)
+
+-- a path's line has three bytes and four a node
+total-fours : (n : ℕ) → total (replicate n 4) ≡ 4 * n
+total-fours zero = refl
+total-fours (suc n) = omega (arith, total-fours n)
+
+pub length-path : (nodes : List ℕ) → length (pathLine nodes) ≡ 3 + 4 * length nodes
+length-path nodes =
+    let same : length {A = ℕ} (replicate (length nodes) 4) ≡ length nodes = length-replicate {A = ℕ} (length nodes) 4 in
+    length-append (digitsOf 2 130) (nodesLine nodes) ∙ omega (arith, length-digits 2 130, length-line (replicate (length nodes) 4) nodes same, total-fours (length nodes))
 
 -- each figure is in the range of its type
 abbrev pub RangedFigures : Figures → Type 0
@@ -44,6 +62,8 @@ number-below-256 (BadPotential v) = omega arith
 number-below-256 (Inconsistent a) = omega arith
 number-below-256 (UnsoundLine n) = omega arith
 number-below-256 (MisplacedLine n) = omega arith
+number-below-256 (NoSuchArc a) = omega arith
+number-below-256 WrongIndex = omega arith
 
 figures-fit : (f : Figures) → RangedFigures f → InFields (4 ∷ 4 ∷ 4 ∷ 4 ∷ []) (figuresOf f)
 figures-fit f h =
@@ -112,7 +132,9 @@ causeAt n at =
     (cond (eqb n 7) (BadArc at)
     (cond (eqb n 8) (BadPotential at)
     (cond (eqb n 9) (Inconsistent at)
-    (cond (eqb n 10) (UnsoundLine at) (MisplacedLine at))))))))))
+    (cond (eqb n 10) (UnsoundLine at)
+    (cond (eqb n 11) (MisplacedLine at)
+    (cond (eqb n 19) (NoSuchArc at) WrongIndex)))))))))))
 
 cause-again : (c : Cause) → causeAt (numberOf c) (placeOf c) ≡ c
 unfolding causeAt
@@ -127,6 +149,8 @@ cause-again (BadPotential v) = refl
 cause-again (Inconsistent a) = refl
 cause-again (UnsoundLine n) = refl
 cause-again (MisplacedLine n) = refl
+cause-again (NoSuchArc a) = refl
+cause-again WrongIndex = refl
 
 -- what an answer's lines show of it beside the path: a route, no route and a refusal whole, a provisional route without its
 -- node count and figures, of an undecided query the turns

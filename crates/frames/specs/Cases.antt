@@ -9,7 +9,7 @@ use Prim.Native.String.{String, [] as none, _∷_ as _then_}
 use lib.IntN.{pos, negℤ}
 use Rattle.network.specs.declared.Cap.the-variants.{Uncapped, AtMost}
 use Rattle.network.specs.declared.Figures.{Figures}
-use Rattle.network.specs.declared.Cause.the-variants.{NodeCount, ArcLists, PotentialLists, StartOrEnd, Pattern, Room, BadArc, BadPotential, Inconsistent, UnsoundLine, MisplacedLine}
+use Rattle.network.specs.declared.Cause.the-variants.{NodeCount, ArcLists, PotentialLists, StartOrEnd, Pattern, Room, BadArc, BadPotential, Inconsistent, UnsoundLine, MisplacedLine, NoSuchArc, WrongIndex}
 use Rattle.network.specs.declared.Answer.{Answer}
 use Rattle.network.specs.declared.Answer.the-variants.{Route, NoRoute, Refused, Provisional, Undecided}
 use Rattle.frames.specs.Digits.{digitOf, valueOf, areDigits, numberFrom, numberAt, digitsOf, spelled}
@@ -183,6 +183,8 @@ answer-cases =
     ∷ refusal (Refused (Inconsistent 0)) "FF0900000000"
     ∷ refusal (Refused (UnsoundLine 12)) "FF0A0000000C"
     ∷ refusal (Refused (MisplacedLine 4294967295)) "FF0BFFFFFFFF"
+    ∷ refusal (Refused (NoSuchArc 8192)) "FF1300002000"
+    ∷ refusal (Refused WrongIndex) "FF1400000000"
     ∷ []
 
 unfoldable pub write : Written → Written

@@ -1,16 +1,15 @@
--- One digit more, read or written: what each turn of the loops over a line leans on. Assumes nothing.
+-- One digit more is read: what each turn of the loops over a line leans on. Assumes nothing.
 use mathlib.Core.Path.{_≡_, refl}
 use mathlib.Core.Bool.{Bool, cond, true, false}
-use mathlib.Core.List.{List, [], _∷_, _++_, append-assoc}
-use Prim.Native.Nat.{ℕ, zero, suc, _+_, _-_, _*_, _/_, _%_, _<_, _≤_}
+use mathlib.Core.List.{List, [], _∷_}
+use Prim.Native.Nat.{ℕ, zero, suc, _+_, _-_, _*_, _<_, _≤_}
 use native.Mathlib.Omega.{arith}
-use native.Mathlib.Nat.{le-refl}
 use native.Mathlib.Numerals.{add-one}
 use lib.Dec.{ltb}
-use lib.ListN.{length, getD, take, drop, set, length-set, drop-of-length-le}
-use lib.Seq.{drop-cons, drop-set-lt, getD-set-same}
+use lib.ListN.{length, getD, take, drop, drop-of-length-le}
+use lib.Seq.{drop-cons}
 use borrow.Author.Tests.{ltb-true, lt-ltb, le-ltb}
-use Rattle.frames.specs.Digits.{digitOf, valueOf, areDigits, numberFrom, digitsOf}
+use Rattle.frames.specs.Digits.{valueOf, areDigits, numberFrom}
 
 -- the test of the first byte and of the others, taken apart
 pub first-is : (a b : Bool) → cond a b false ≡ true → a ≡ true
@@ -51,11 +50,3 @@ number-more s at d i n more within =
     let one : d - i ≡ suc (d - (i + 1)) = omega arith in
     let next : at + (i + 1) ≡ suc (at + i) = omega arith in
     rw (one, next, drop-cons s (at + i) 0)
-
--- one digit more is written, from the back
-pub digits-written : (room : List ℕ) (j n : ℕ) → j < length room → digitsOf j (n / 16) ++ drop j (set room j (digitOf (n % 16))) ≡ digitsOf (suc j) n ++ drop (suc j) room
-unfolding digitsOf
-digits-written room j n h =
-    let d : ℕ = digitOf (n % 16) in
-    let within : j < length (set room j d) = rw length-set h in
-    rw (drop-cons (set room j d) j 0, getD-set-same room j d 0, drop-set-lt (suc j) room j d (le-refl (suc j)), append-assoc)

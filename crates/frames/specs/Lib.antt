@@ -13,7 +13,7 @@ pub mod FieldLaws
 pub mod FrameCases
 pub mod FrameLaws
 pub mod RoomLaws
-pub mod LineSteps
+pub mod PatternLaws
 pub mod AnswerLaws
 pub mod OneAnswer
 pub mod Cases

@@ -1,6 +1,6 @@
 -- Texts laid part by part. A text is underway in a room while its first entries stand at the front, the rest is still to come,
 -- and nothing beyond has changed; each writer takes it one part further. Assumes nothing.
-use mathlib.Core.Path.{_≡_, refl, sym, ap, subst, _∙_}
+use mathlib.Core.Path.{_≡_, refl, sym, ap, _∙_}
 use mathlib.Core.Bool.{Bool, true, false, cond}
 use mathlib.Core.List.{List, [], _∷_, _++_, append-assoc, append-nil}
 use Prim.Native.Nat.{ℕ, suc, _+_, _-_, _<_, _≤_}
@@ -20,10 +20,6 @@ pub record Underway (text old room : List ℕ) (at : ℕ) (left : List ℕ) : Ty
   pub size : length room ≡ length old
   pub fits : at + length left ≤ length room
 
-length-laid : (text room : List ℕ) → length text ≤ length room → length (laid text room) ≡ length room
-unfolding laid
-length-laid text room h = simp (length-append, length-drop) (omega arith)
-
 -- a text that fits where it was to be placed is laid there
 pub placed-laid : (text room after : List ℕ) (n : ℕ) → length text ≤ length room → Placed text room after n → Laid text room after n
 unfolding placed counted
@@ -38,11 +34,6 @@ placed-within {text} {room} p = rw (p .count-is) (within (leb (length text) (len
     within true e = leb-true _ _ e
     within false e = omega arith
 
--- a text before what follows its length is laid
-pub laid-before : (text room : List ℕ) (n : ℕ) → length text ≡ n → text ++ drop n room ≡ laid text room
-unfolding laid
-laid-before text room n e = rw e
-
 -- a part lent from a place on has the room that is left there
 pub length-rest : (room : List ℕ) (at : ℕ) → length (take (length room - at) (drop at room)) ≡ length room - at
 length-rest room at =
@@ -55,17 +46,6 @@ lent-room room at n h = rw (length-rest room at) (omega arith)
 -- nothing is written yet
 pub underway-start : (text room : List ℕ) → length text ≤ length room → Underway text room room 0 text
 underway-start text room h = record { front = refl; back = refl; size = refl; fits = omega arith }
-
--- the first part is laid
-underway-first : (one two room after : List ℕ) → length one + length two ≤ length room → after ≡ laid one room → Underway (one ++ two) room after (length one) two
-unfolding laid
-underway-first one two room after h e =
-    record {
-      front = rw (e, take-at one (drop (length one) room) (length one) refl);
-      back = rw (e, drop-at one (drop (length one) room) (length one) refl);
-      size = ap length e ∙ simp (length-append, length-drop) (omega arith);
-      fits = let l : length after ≡ length room = ap length e ∙ simp (length-append, length-drop) (omega arith) in omega arith;
-    }
 
 -- one entry more is written
 pub underway-entry : (text old room : List ℕ) (at b : ℕ) (left : List ℕ) → Underway text old room at (b ∷ left) → Underway text old (set room at b) (at + 1) left
@@ -119,23 +99,6 @@ underway-end text old room at u =
       room-is = sym (take-append-drop at room) ∙ rw (all, u .back, n);
     }
 
--- what is left after a first text has room for a second
-pub laid-leaves : (one two room xs : List ℕ) (at : ℕ) → length one + length two ≤ length room → Laid one room xs at → at + length two ≤ length xs
-laid-leaves one two room xs at h p = omega (arith, p .count-is, ap length (p .room-is), length-laid one room (omega arith))
-
--- a text after a text: the second writer was lent the room from where the first one ended
-pub laid-after :
-    (one two room xs ys : List ℕ) (at more : ℕ) → length one + length two ≤ length room
-    → Laid one room xs at
-    → Laid two (take (length xs - at) (drop at xs)) ys more
-    → Laid (one ++ two) room (take at xs ++ (ys ++ drop (length xs - at) (drop at xs))) (at + more)
-laid-after one two room xs ys at more h p q =
-    let first : Underway (one ++ two) room xs (length one) two = underway-first one two room xs h (p .room-is) in
-    let here : Underway (one ++ two) room xs at two = rw (← p .count-is) at first in
-    let there : Underway (one ++ two) room xs at (two ++ []) = subst (λ (l : List ℕ). Underway (one ++ two) room xs at l) (sym (append-nil two)) here in
-    let both : Underway (one ++ two) room (take at xs ++ (ys ++ drop (length xs - at) (drop at xs))) (at + length two) [] = underway-more (one ++ two) room xs at two [] ys there (q .room-is) in
-    underway-end (one ++ two) room _ (at + more) (rw (← q .count-is) at both)
-
 -- a text that was laid where it fits is placed, and one that does not fit leaves the room as it is
 pub laid-placed : (text room after : List ℕ) (count : ℕ) → length text ≤ length room → Laid text room after count → Placed text room after count
 unfolding placed counted
@@ -148,3 +111,11 @@ too-little-room text room h = record { count-is = rw (lt-leb _ _ h); room-is = r
 pub nothing-placed : (room : List ℕ) → Placed [] room room 0
 unfolding laid
 nothing-placed room = laid-placed [] room room 0 (omega arith) (record { count-is = refl; room-is = refl })
+
+-- what two writers of a text leave in the same room, and what they count, are the same
+pub placed-once :
+    (text room after after′ : List ℕ) (count count′ : ℕ)
+    → Placed text room after count
+    → Placed text room after′ count′
+    → (count ≡ count′) × (after ≡ after′)
+placed-once text room after after′ count count′ p q = (p .count-is ∙ sym (q .count-is), p .room-is ∙ sym (q .room-is))

@@ -1,6 +1,6 @@
 -- Why the demands are met (docs/RULES.md, "The three demands" and "Capped queries"), from the definitions up:
 --     ByMark                                  the search as the code makes it: the mark for what is missing, compared as a number
---     Tabled, StateLaws, CodeLaws, CountLaws  tables, states put together over the side, scans of arcs, counts of states
+--     Tabled, StateLaws, CodeLaws, CountLaws  tables, states put together over the side, counts of states
 --     Measures, MeasureLaws, LeastLaws        the numbers that are compared, and the choice of step 3
 --     LookLaws, Moved, MovedLaws, TurnLaws    what a turn does, as one relation between two states
 --     UndecidedWalk, BeginningLaws            walks over undecided nodes, and the tables before the first turn

@@ -59,7 +59,8 @@ eventOf Interrupted chunk = again
 eventOf WouldWait chunk = again
 eventOf Failed chunk = failed
 
--- the system's numbers of the two errors after which a call is made again: it was interrupted (EINTR), it would have to wait (EAGAIN)
+-- the system's numbers of the two errors after which a call is made again: it was interrupted (EINTR), it would have to wait
+-- (EAGAIN)
 abbrev pub interruptedError : ℕ
 interruptedError = 4
 

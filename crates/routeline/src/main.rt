@@ -6,6 +6,7 @@
 ghost use mathlib.Core.Path.{_≡_};
 ghost use lib.ListN.{length};
 ghost use lib.Seq.{slice};
+ghost use Rattle.index.specs.Index.{index};
 ghost use Rattle.district.specs.Reader.{lists, Reached};
 ghost use Rattle.routeline.specs.Talk.{talkAfter, talkLooked};
 ghost use Rattle.routeline.specs.Speaker.{talkOf, OwedWithin, Sits, StandsFor, startSpeaker, eventOf, unmovedBy, readingOf, writingOf, CameWithin, WentWithin, ReadDid, WriteDid, AsksAs, Answers, looksOn, TellsAs};
@@ -14,12 +15,14 @@ use libc::STDERR_FILENO;
 use libc::STDIN_FILENO;
 use libc::STDOUT_FILENO;
 
-// The entries of the lists that hold a line, the arcs and the potentials.
+// The entries of the lists that hold a line, the arcs, the potentials, and where each node's arcs begin in the index.
 const DIGITS: usize = frames::MOST_DIGITS;
 
 const ARCS: usize = network::MOST_ARCS;
 
 const NODES: usize = network::MOST_NODES as usize;
+
+const BEGINS: usize = NODES + 1;
 
 // The bytes of one read, at the most.
 const CHUNK: usize = 16384;
@@ -233,12 +236,16 @@ fn look(
     tails: &mut [u16],
     heads: &mut [u16],
     weights: &mut [u32],
+    out_arcs: &mut [u16],
+    out_begins: &mut [u16],
+    in_arcs: &mut [u16],
+    in_begins: &mut [u16],
     forward: &mut [i32],
     backward: &mut [i32],
     room: &mut [u8],
 ) -> Speaker
-    requires { ⌜ Sits speaker (lists (now line) (now tails) (now heads) (now weights) (now forward) (now backward)) (now chunk) (now room) ⌝ }
-    ensures { λ r. ⌜ StandsFor (talkLooked (talkOf speaker (lists (now (line .entry)) (now (tails .entry)) (now (heads .entry)) (now (weights .entry)) (now (forward .entry)) (now (backward .entry))) (now (chunk .entry)) (now (room .entry)))) r (lists (now (line .exit)) (now (tails .exit)) (now (heads .exit)) (now (weights .exit)) (now (forward .exit)) (now (backward .exit))) (now (chunk .entry)) (now (room .exit)) ⌝ }
+    requires { ⌜ Sits speaker (lists (now line) (now tails) (now heads) (now weights) (index (now «out_arcs») (now «out_begins») (now «in_arcs») (now «in_begins»)) (now forward) (now backward)) (now chunk) (now room) ⌝ }
+    ensures { λ r. ⌜ StandsFor (talkLooked (talkOf speaker (lists (now (line .entry)) (now (tails .entry)) (now (heads .entry)) (now (weights .entry)) (index (now («out_arcs» .entry)) (now («out_begins» .entry)) (now («in_arcs» .entry)) (now («in_begins» .entry))) (now (forward .entry)) (now (backward .entry))) (now (chunk .entry)) (now (room .entry)))) r (lists (now (line .exit)) (now (tails .exit)) (now (heads .exit)) (now (weights .exit)) (index (now («out_arcs» .exit)) (now («out_begins» .exit)) (now («in_arcs» .exit)) (now («in_begins» .exit))) (now (forward .exit)) (now (backward .exit))) (now (chunk .entry)) (now (room .exit)) ⌝ }
 {
     let mut reader = speaker.reader;
     let mut from = speaker.from;
@@ -253,6 +260,10 @@ fn look(
             tails,
             heads,
             weights,
+            out_arcs,
+            out_begins,
+            in_arcs,
+            in_begins,
             forward,
             backward,
             room,
@@ -282,14 +293,18 @@ fn after(
     tails: &mut [u16; ARCS],
     heads: &mut [u16; ARCS],
     weights: &mut [u32; ARCS],
+    out_arcs: &mut [u16; ARCS],
+    out_begins: &mut [u16; BEGINS],
+    in_arcs: &mut [u16; ARCS],
+    in_begins: &mut [u16; BEGINS],
     forward: &mut [i32; NODES],
     backward: &mut [i32; NODES],
     room: &mut [u8; ROOM],
 ) -> Speaker
-    requires { ⌜ Sits speaker (lists (now line) (now tails) (now heads) (now weights) (now forward) (now backward)) (now chunk) (now room) ⌝ }
+    requires { ⌜ Sits speaker (lists (now line) (now tails) (now heads) (now weights) (index (now «out_arcs») (now «out_begins») (now «in_arcs») (now «in_begins»)) (now forward) (now backward)) (now chunk) (now room) ⌝ }
     requires { ⌜ CameWithin did (length (now chunk)) ⌝ }
     requires { ⌜ WentWithin speaker did ⌝ }
-    ensures { λ r. ⌜ StandsFor (talkAfter (talkOf speaker (lists (now (line .entry)) (now (tails .entry)) (now (heads .entry)) (now (weights .entry)) (now (forward .entry)) (now (backward .entry))) (now (chunk .entry)) (now (room .entry))) (eventOf did (now (chunk .entry)))) r (lists (now (line .exit)) (now (tails .exit)) (now (heads .exit)) (now (weights .exit)) (now (forward .exit)) (now (backward .exit))) (now (chunk .entry)) (now (room .exit)) ⌝ }
+    ensures { λ r. ⌜ StandsFor (talkAfter (talkOf speaker (lists (now (line .entry)) (now (tails .entry)) (now (heads .entry)) (now (weights .entry)) (index (now («out_arcs» .entry)) (now («out_begins» .entry)) (now («in_arcs» .entry)) (now («in_begins» .entry))) (now (forward .entry)) (now (backward .entry))) (now (chunk .entry)) (now (room .entry))) (eventOf did (now (chunk .entry)))) r (lists (now (line .exit)) (now (tails .exit)) (now (heads .exit)) (now (weights .exit)) (index (now («out_arcs» .exit)) (now («out_begins» .exit)) (now («in_arcs» .exit)) (now («in_begins» .exit))) (now (forward .exit)) (now (backward .exit))) (now (chunk .entry)) (now (room .exit)) ⌝ }
 {
     let next = told(speaker, did, room);
     look(
@@ -299,6 +314,10 @@ fn after(
         tails,
         heads,
         weights,
+        out_arcs,
+        out_begins,
+        in_arcs,
+        in_begins,
         forward,
         backward,
         room,
@@ -394,6 +413,10 @@ fn main() {
     let mut tails = [0u16; ARCS];
     let mut heads = [0u16; ARCS];
     let mut weights = [0u32; ARCS];
+    let mut out_arcs = [0u16; ARCS];
+    let mut out_begins = [0u16; BEGINS];
+    let mut in_arcs = [0u16; ARCS];
+    let mut in_begins = [0u16; BEGINS];
     let mut forward = [0i32; NODES];
     let mut backward = [0i32; NODES];
     let mut chunk = [0u8; CHUNK];
@@ -414,6 +437,10 @@ fn main() {
             &mut tails,
             &mut heads,
             &mut weights,
+            &mut out_arcs,
+            &mut out_begins,
+            &mut in_arcs,
+            &mut in_begins,
             &mut forward,
             &mut backward,
             &mut room,

@@ -10,26 +10,29 @@ use borrow.Author.Tests.{lt-ltb, le-ltb}
 use Rattle.network.specs.declared.Answer.{Answer}
 use Rattle.network.specs.declared.Answer.the-variants.{Refused}
 use Rattle.network.specs.declared.Cause.{Cause}
-use Rattle.network.specs.declared.Figures.{Figures}
 use Rattle.network.specs.declared.Verdict.the-variants.{Accepted, Refused as Refusal}
+use Rattle.network.specs.CaseSplit.{by-lt}
 use Rattle.network.specs.Given.{Enough, Sound}
 use Rattle.network.specs.Network.{start, end}
 use Rattle.network.specs.Potential.{potentialAt}
 use Rattle.network.specs.Query.{Query}
-use Rattle.network.specs.Refusal.{queryVerdict}
 use Rattle.nba.specs.State.{missing, State}
 use Rattle.nba.specs.Search.{stateAt}
 use Rattle.nba.specs.Result.{pathThrough, pathOf, figuresIn, answerAt, excessOver, excess, unendedAt, foundAt}
 use Rattle.nba.specs.Why.CodeLaws.{state-at-tabled}
 use Rattle.nba.specs.Why.Theorems.{path-fits-at}
+use Rattle.network.specs.Front.{atFront}
+use Rattle.index.specs.Index.{Index}
+use Rattle.index.specs.Table.{indexedVerdict}
+use Rattle.tables.specs.Tables.{Long, PathRoom}
+use Rattle.tables.specs.TablesLaws.{nodes-by-entry}
 use Rattle.cap.specs.Stop.{withLength, withoutLength}
-use Rattle.search.specs.declared.run.Stop.{Stop}
+use Rattle.run.specs.declared.Stop.{Stop}
+use Rattle.run.specs.Run.{standing, StoppedAt}
 use Rattle.search.specs.CappedLaws.{refused-left, accepted-left, capped-kept}
 use Rattle.search.specs.Demands.{CappedKept}
 use Rattle.search.specs.Promise.{LentLists, lentLists, lengths, shownPath, listsAt, left, searchLeavesAt}
-use Rattle.search.specs.Run.{standing, Filled, Long, StoppedAt, SearchedInPlace}
-use Rattle.search.specs.Tables.{atFront, PathRoom}
-use Rattle.search.specs.TablesLaws.{nodes-by-entry}
+use Rattle.search.specs.Answered.{answerRead, pathRead, ToBeAnswered, Filled, SearchedInPlace}
 
 module _ {q : Query} (sound : Sound q) {cap : ℕ} {sl sn el en states : List ℕ} {r : Stop} (t : StoppedAt q cap (standing sl sn el en states (r .progress)) r) where
   -- the lists are the tables of the state at the cap
@@ -58,45 +61,44 @@ module _ {q : Query} (sound : Sound q) {cap : ℕ} {sl sn el en states : List �
   unfolding excess
   excess-is = rw (sym (t .here))
 
-  module _ {f : Figures} (counted : f ≡ figuresIn states) where
-    figures-are : f ≡ figuresIn (stateAt q cap .states)
-    figures-are = counted ∙ ap figuresIn (filled-at .states)
+  figures-are : figuresIn states ≡ figuresIn (stateAt q cap .states)
+  figures-are = ap figuresIn (filled-at .states)
 
-    -- with no best length the answer is "no route" or undecided
-    pub answers-none : missing ≤ r .progress .length → withoutLength (r .over) f ≡ foundAt q cap
-    unfolding foundAt answerAt unendedAt withoutLength
-    answers-none h = rw (le-ltb (stateAt q cap .best) missing (omega (arith, best-is)), figures-are, t .whether-over)
+  -- the answer that is read off is the search's
+  pub answer-read : answerRead (q .forward) (q .backward) (q .start) (q .end) sn en states r ≡ foundAt q cap
+  unfolding answerRead foundAt answerAt unendedAt withLength withoutLength
+  answer-read =
+      by-lt (r .progress .length) missing
+      (λ h. rw (lt-ltb (r .progress .length) missing h, lt-ltb (stateAt q cap .best) missing (omega (arith, best-is)), excess-is, path-are, best-is, figures-are, t .whether-over))
+      (λ h. rw (le-ltb (r .progress .length) missing h, le-ltb (stateAt q cap .best) missing (omega (arith, best-is)), figures-are, t .whether-over))
 
-    -- with one it is a route of that length, or provisional
-    pub answers-some : {x n : ℕ} → r .progress .length < missing → x ≡ excessOver (r .progress .length) (r .progress .floor -ℤ potentialAt (q .forward) (q .end)) (r .progress .beyond -ℤ potentialAt (q .backward) (q .start))
-        → n ≡ length (pathThrough sn en (q .start) (q .end) (r .progress .meeting)) → withLength (r .over) (r .progress .length) x n f ≡ foundAt q cap
-    unfolding foundAt answerAt unendedAt withLength
-    answers-some h d e = rw (lt-ltb (stateAt q cap .best) missing (omega (arith, best-is)), d, excess-is, e, path-are, best-is, figures-are, t .whether-over)
+  -- and so is the path
+  pub path-read : pathRead (q .start) (q .end) sn en r ≡ shownPath q (stateAt q cap)
+  unfolding pathRead shownPath
+  path-read = rw (path-are, best-is)
 
-  -- with no best length the path list keeps its entries
-  pub shows-none : missing ≤ r .progress .length → (path : List ℕ) → path ≡ atFront (shownPath q (stateAt q cap)) path
-  unfolding shownPath atFront
-  shows-none h path = rw (le-ltb (stateAt q cap .best) missing (omega (arith, best-is)))
+  -- a path has room: it is of nodes, and no more than there are
+  path-room : {path : List ℕ} → q .network .nodes ≤ length path → r .progress .length < missing → PathRoom path sn en (q .start) (q .end) (r .progress .meeting)
+  path-room {path} h here =
+      let sn-long : length sn ≡ q .network .nodes = ap length (filled-at .start-neighbours) ∙ state-at-tabled q cap .neighbours-long start in
+      let en-long : length en ≡ q .network .nodes = ap length (filled-at .end-neighbours) ∙ state-at-tabled q cap .neighbours-long end in
+      let fit = path-fits-at sound cap (omega (arith, best-is)) in
+      record {
+        as-many = en-long ∙ sym sn-long;
+        few = omega (arith, sound .sized .few-nodes);
+        room = omega arith;
+        short = rw (sn-long, path-are) (fit .few);
+        nodes = rw (sn-long, path-are) (nodes-by-entry (q .network .nodes) (pathOf q (stateAt q cap)) (fit .inside));
+      }
 
-  module _ (here : r .progress .length < missing) where
-    -- the path list shows the route
-    pub shows-route : (path : List ℕ) {shown : List ℕ} → shown ≡ atFront (pathThrough sn en (q .start) (q .end) (r .progress .meeting)) path → shown ≡ atFront (shownPath q (stateAt q cap)) path
-    unfolding shownPath
-    shows-route path e = e ∙ rw (lt-ltb (stateAt q cap .best) missing (omega (arith, best-is))) (ap (λ p. atFront p path) path-are)
-
-    -- the path has room: it is of nodes, and no more than there are
-    pub path-room : {path : List ℕ} → q .network .nodes ≤ length path → PathRoom path sn en (q .start) (q .end) (r .progress .meeting)
-    path-room {path} h =
-        let sn-long : length sn ≡ q .network .nodes = ap length (filled-at .start-neighbours) ∙ state-at-tabled q cap .neighbours-long start in
-        let en-long : length en ≡ q .network .nodes = ap length (filled-at .end-neighbours) ∙ state-at-tabled q cap .neighbours-long end in
-        let fit = path-fits-at sound cap (omega (arith, best-is)) in
-        record {
-          as-many = en-long ∙ sym sn-long;
-          few = omega (arith, sound .sized .few-nodes);
-          room = omega arith;
-          short = rw (sn-long, path-are) (fit .few);
-          nodes = rw (sn-long, path-are) (nodes-by-entry (q .network .nodes) (pathOf q (stateAt q cap)) (fit .inside));
-        }
+  pub readable : {path : List ℕ} → q .network .nodes ≤ length path → ToBeAnswered (q .forward) (q .backward) (q .start) (q .end) sn en states path r
+  readable h = record {
+    few = omega (arith, ap length (filled-at .states), state-at-tabled q cap .states-long, sound .sized .few-nodes);
+    end-in = omega (arith, sound .source-in end, sound .sized .forward-long);
+    start-in = omega (arith, sound .source-in start, sound .sized .backward-long);
+    floors = t .floors;
+    room = path-room h;
+  }
 
 -- ---- the first entries of longer lists
 -- every lent list, cut to one entry a node, has one entry a node
@@ -122,9 +124,10 @@ cut-left q cap before h =
 
 -- ---- the whole query
 -- a refusal leaves the lists as they are
-pub kept-refused : (q : Query) (cap : ℕ) (l : LentLists) (c : Cause) → queryVerdict q (lengths l) ≡ Refusal c → CappedKept q cap l l (Refused c)
-kept-refused q cap l c v = capped-kept q cap l l (Refused c) (sym (refused-left q cap l v))
+pub kept-refused : (q : Query) (ix : Index) (cap : ℕ) (l : LentLists) (c : Cause) → indexedVerdict q ix (lengths l) ≡ Refusal c → CappedKept q ix cap l l (Refused c)
+kept-refused q ix cap l c v = capped-kept q ix cap l l (Refused c) (sym (refused-left q ix cap l v))
 
 -- an accepted query leaves what its search leaves
-pub kept-accepted : (q : Query) (cap : ℕ) (before after : LentLists) (r : Answer) → queryVerdict q (lengths before) ≡ Accepted → left r after ≡ searchLeavesAt q cap before → CappedKept q cap before after r
-kept-accepted q cap before after r v e = capped-kept q cap before after r (e ∙ sym (accepted-left q cap before v))
+pub kept-accepted : (q : Query) (ix : Index) (cap : ℕ) (before after : LentLists) (r : Answer) → indexedVerdict q ix (lengths before) ≡ Accepted → left r after ≡ searchLeavesAt q cap before
+    → CappedKept q ix cap before after r
+kept-accepted q ix cap before after r v e = capped-kept q ix cap before after r (e ∙ sym (accepted-left q ix cap before v))

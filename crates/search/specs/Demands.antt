@@ -1,5 +1,6 @@
 -- The buyer's three demands (docs/RULES.md, "The three demands"), and what is demanded at a cap (docs/RULES.md, "Capped queries"),
--- of a query's answer and of the lent lists before and after it: what stands in the query's own contract. Assumes nothing.
+-- of the answer of a query over an index and of the lent lists before and after it: what stands in the query's own contract.
+-- Assumes nothing.
 use mathlib.Core.Path.{_≡_}
 use mathlib.Core.Logic.{_≢_}
 use mathlib.Core.Bool.{true, false}
@@ -21,6 +22,8 @@ use Rattle.network.specs.Query.{Query, potentials, source}
 use Rattle.network.specs.Refusal.{badPattern}
 use Rattle.nba.specs.State.{missing, openedBy}
 use Rattle.nba.specs.Demands.{WalkOfLength, Joined, NoneTwice, Demand3Turns, withPattern, SameLengthAndVerdict, WithinExcess, NoWorse, IsUndecided, Demand3TurnsAt}
+use Rattle.index.specs.Index.{Index}
+use Rattle.index.specs.Table.{QueryCondition}
 use Rattle.search.specs.Promise.{LentLists, lengths, left, queried, queriedAt}
 
 -- an answer is a refusal with this number and place: those of its cause
@@ -28,11 +31,11 @@ pub data IsRefusal : Answer → ℕ → ℕ → Type 0 where
   of-cause : (c : Cause) → IsRefusal (Refused c) (numberOf c) (placeOf c)
 
 -- Demand 1: refused exactly when the table says, with its number and place, and with nothing changed
-pub record Demand1 (q : Query) (before after : LentLists) (r : Answer) : Type 0 where
+pub record Demand1 (q : Query) (ix : Index) (before after : LentLists) (r : Answer) : Type 0 where
   -- what is refused is refused with a number and at a place that the table gives
-  pub refused-as-given : (number place : ℕ) → IsRefusal r number place → Given q (lengths before) number place
+  pub refused-as-given : (number place : ℕ) → IsRefusal r number place → Given (QueryCondition q ix (lengths before)) number place
   -- what the table gives is refused, with that number and at that place
-  pub given-is-refused : (number place : ℕ) → Given q (lengths before) number place → IsRefusal r number place
+  pub given-is-refused : (number place : ℕ) → Given (QueryCondition q ix (lengths before)) number place → IsRefusal r number place
   -- a refusal changes nothing in the lists
   pub untouched : (number place : ℕ) → IsRefusal r number place → after ≡ before
 
@@ -59,7 +62,7 @@ labelsIn start l = l .start-labels
 labelsIn end l = l .end-labels
 
 -- Demand 3: turns at most nodes, and a node leaves once; opened nodes exact and within the bound; the same for every pattern
-pub record Demand3 (q : Query) (before after : LentLists) (r : Answer) : Type 0 where
+pub record Demand3 (q : Query) (ix : Index) (before after : LentLists) (r : Answer) : Type 0 where
   -- for start and end different: the search ended after the turns answered, at most as many as there are nodes, and in each of
   -- them one node left the undecided set, for good
   pub turns : {f : Figures} → HasFigures r f → q .start ≢ q .end → Demand3Turns q (f .turns)
@@ -74,14 +77,14 @@ pub record Demand3 (q : Query) (before after : LentLists) (r : Answer) : Type 0 
   -- with any pattern that number 5 does not refuse, the same query on the same lists is answered with the same verdict and
   -- length: it is not refused either
   pub every-pattern : {f : Figures} → HasFigures r f → (p : List ℕ) → badPattern p ≡ false
-      → SameLengthAndVerdict r (queried (withPattern p q) before .answer)
+      → SameLengthAndVerdict r (queried (withPattern p q) ix before .answer)
 
 -- What a query keeps to: it leaves what the rules fix, entry for entry, and so the three demands are met.
-pub record QueryKept (q : Query) (before after : LentLists) (r : Answer) : Type 0 where
-  pub leaves : left r after ≡ queried q before
-  pub demand1 : Demand1 q before after r
+pub record QueryKept (q : Query) (ix : Index) (before after : LentLists) (r : Answer) : Type 0 where
+  pub leaves : left r after ≡ queried q ix before
+  pub demand1 : Demand1 q ix before after r
   pub demand2 : Demand2 q after r
-  pub demand3 : Demand3 q before after r
+  pub demand3 : Demand3 q ix before after r
 
 -- ---- at a cap
 -- the figures of an answer that is no refusal
@@ -102,14 +105,14 @@ pub record HonestAnswer (q : Query) (after : LentLists) (r : Answer) : Type 0 wh
   pub shortest : {l x n : ℕ} {f : Figures} → r ≡ Provisional l x n f → WithinExcess q l x
 
 -- Never taken back: what is answered holds at every larger cap
-pub record NotTakenBack (q : Query) (cap : ℕ) (before after : LentLists) (r : Answer) : Type 0 where
+pub record NotTakenBack (q : Query) (ix : Index) (cap : ℕ) (before after : LentLists) (r : Answer) : Type 0 where
   -- a route or a "no route" is the same answer at every larger cap and without a cap, with the same path and the same tables
-  pub decided : {f : Figures} → HasFigures r f → (d : ℕ) → cap ≤ d → queriedAt q d before ≡ left r after
-  pub as-uncapped : {f : Figures} → HasFigures r f → queried q before ≡ left r after
+  pub decided : {f : Figures} → HasFigures r f → (d : ℕ) → cap ≤ d → queriedAt q ix d before ≡ left r after
+  pub as-uncapped : {f : Figures} → HasFigures r f → queried q ix before ≡ left r after
   -- a provisional becomes a route no longer than it, or a provisional with neither length nor excess larger
-  pub no-worse : {l x n : ℕ} {f : Figures} → r ≡ Provisional l x n f → (d : ℕ) → cap ≤ d → NoWorse l x (queriedAt q d before .answer)
+  pub no-worse : {l x n : ℕ} {f : Figures} → r ≡ Provisional l x n f → (d : ℕ) → cap ≤ d → NoWorse l x (queriedAt q ix d before .answer)
   -- nothing goes back to undecided: what is undecided at a larger cap is undecided here
-  pub not-undone : (d : ℕ) → cap ≤ d → IsUndecided (queriedAt q d before .answer) → IsUndecided r
+  pub not-undone : (d : ℕ) → cap ≤ d → IsUndecided (queriedAt q ix d before .answer) → IsUndecided r
 
 -- Demand 3 before the end: whatever is answered that is no refusal
 pub record Demand3AtCap (q : Query) (cap : ℕ) (after : LentLists) (r : Answer) : Type 0 where
@@ -127,11 +130,11 @@ pub record Demand3AtCap (q : Query) (cap : ℕ) (after : LentLists) (r : Answer)
 
 -- What a query with a cap keeps to: it leaves what the rules fix, entry for entry; so it is honest and never taken back, demand 3
 -- holds before the end, and where the search ended all three demands are met as without a cap.
-pub record CappedKept (q : Query) (cap : ℕ) (before after : LentLists) (r : Answer) : Type 0 where
-  pub leaves : left r after ≡ queriedAt q cap before
-  pub demand1 : Demand1 q before after r
+pub record CappedKept (q : Query) (ix : Index) (cap : ℕ) (before after : LentLists) (r : Answer) : Type 0 where
+  pub leaves : left r after ≡ queriedAt q ix cap before
+  pub demand1 : Demand1 q ix before after r
   pub demand2 : Demand2 q after r
-  pub demand3 : Demand3 q before after r
+  pub demand3 : Demand3 q ix before after r
   pub honest : HonestAnswer q after r
-  pub never-taken-back : NotTakenBack q cap before after r
+  pub never-taken-back : NotTakenBack q ix cap before after r
   pub demand3-before-the-end : Demand3AtCap q cap after r

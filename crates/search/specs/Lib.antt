@@ -2,11 +2,9 @@
 pub mod Promise
 pub mod Demands
 -- What the functions inside promise each other.
-pub mod Tables
-pub mod Run
+pub mod Answered
 -- What queries leave, computed.
 pub mod Cases
 -- Why.
-pub mod TablesLaws
 pub mod DemandLaws
 pub mod CappedLaws

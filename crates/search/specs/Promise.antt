@@ -10,11 +10,12 @@ use Rattle.network.specs.declared.Lent.{Lent}
 use Rattle.network.specs.declared.Verdict.{Verdict}
 use Rattle.network.specs.declared.Verdict.the-variants.{Accepted, Refused as Refusal}
 use Rattle.network.specs.Query.{Query}
-use Rattle.network.specs.Refusal.{queryVerdict}
 use Rattle.nba.specs.State.{State, present}
 use Rattle.nba.specs.Search.{stateAt}
 use Rattle.nba.specs.Result.{pathOf, found, foundAt}
-use Rattle.search.specs.Tables.{atFront}
+use Rattle.network.specs.Front.{atFront}
+use Rattle.index.specs.Index.{Index}
+use Rattle.index.specs.Table.{indexedVerdict}
 
 -- the six lists that a caller lends
 pub record LentLists : Type 0 where
@@ -88,9 +89,9 @@ abbrev pub verdictLeaves : Verdict → LentLists → Left → Left
 verdictLeaves (Refusal c) l searched = left (Refused c) l
 verdictLeaves Accepted l searched = searched
 
--- what a query leaves, without a cap and at a cap
-unfoldable pub queried : Query → LentLists → Left
-queried q l = verdictLeaves (queryVerdict q (lengths l)) l (searchLeaves q l)
+-- what a query over an index leaves, without a cap and at a cap: the index decides about a refusal, and about nothing else
+unfoldable pub queried : Query → Index → LentLists → Left
+queried q ix l = verdictLeaves (indexedVerdict q ix (lengths l)) l (searchLeaves q l)
 
-unfoldable pub queriedAt : Query → ℕ → LentLists → Left
-queriedAt q cap l = verdictLeaves (queryVerdict q (lengths l)) l (searchLeavesAt q cap l)
+unfoldable pub queriedAt : Query → Index → ℕ → LentLists → Left
+queriedAt q ix cap l = verdictLeaves (indexedVerdict q ix (lengths l)) l (searchLeavesAt q cap l)

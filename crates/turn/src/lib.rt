@@ -1,27 +1,17 @@
 // One turn of the search (docs/RULES.md, "The search, turn by turn"), seen from the side whose turn it is. Every function
 // here is handed the side's own lists first and the other side's after them, with tails and heads exchanged for the end
-// side, so that one text serves both sides.
+// side and its own way of the index, so that one text serves both sides.
 ghost use mathlib.Core.Path.{_≡_};
-ghost use Prim.Native.Nat.{_+_, _<_, _^_};
-ghost use lib.IntN.{pos, _+ℤ_, _-ℤ_};
+ghost use Prim.Native.Nat.{_<_, _^_};
 ghost use lib.ListN.{length};
-ghost use lib.Signed.{leZ, ltZ, mag};
+ghost use lib.Signed.{mag};
 ghost use Rattle.network.specs.Network.{start, network};
 ghost use Rattle.nba.specs.Why.ByMark.{labelByMark, lookEachByMark};
-ghost use Rattle.nba.specs.Search.{arcsOf, floorAfter, leastBelow};
-ghost use Rattle.turn.specs.Turn.{Ahead, Openable, Passed, bestOf, considered, meant, nodeTaken, reach, rejects, took};
-
-// A missing label, and a missing best length.
-pub const MISSING: u32 = 4294967295;
-
-// The state of a node that no side has taken.
-pub const UNDECIDED: u8 = 0;
-
-// The node that a side takes next, with its key: the least label plus own potential.
-pub enum Candidate {
-    Nothing,
-    Node(u16, i64),
-}
+ghost use Rattle.nba.specs.Search.{arcsOf, leastBelow};
+ghost use Rattle.steps.specs.Steps.{meant};
+ghost use Rattle.turn.specs.Turn.{Ahead, Openable, Passed, bestOf, nodeTaken, reach, took};
+use steps::Candidate;
+use steps::UNDECIDED;
 
 // The best length so far and the meeting node.
 pub struct Best {
@@ -33,43 +23,6 @@ pub struct Best {
 pub struct Next {
     pub own: Candidate,
     pub other: Candidate,
-}
-
-// A node's key: its label plus the potential, exact in 64 bits.
-fn key(label: u32, potential: i32) -> i64
-    ensures { λ r. ⌜ r ≡ pos label +ℤ potential ⌝ }
-{
-    label as i64 + potential as i64
-}
-
-// The order of keys.
-fn below(a: i64, b: i64) -> bool
-    ensures { λ r. ⌜ r ≡ ltZ a b ⌝ }
-{
-    a < b
-}
-
-// Node v beside the best candidate so far: an undecided labelled node with a lower key takes its place.
-fn consider(best: Candidate, v: u16, label: u32, state: u8, potential: i32) -> Candidate
-    ensures { λ r. ⌜ meant r ≡ considered (meant best) v label state potential ⌝ }
-{
-    if state != UNDECIDED {
-        return best;
-    }
-    if MISSING <= label {
-        return best;
-    }
-    let k = key(label, potential);
-    match best {
-        Candidate::Nothing => Candidate::Node(v, k),
-        Candidate::Node(_, least) => {
-            if below(k, least) {
-                Candidate::Node(v, k)
-            } else {
-                best
-            }
-        }
-    }
 }
 
 // One pass over the nodes finds what both sides take next, and so the floor of the side that has had its turn.
@@ -88,43 +41,13 @@ pub fn next_candidates(
     let mut beyond = Candidate::Nothing;
     for v in 0..states.len() {
         let state = states[v];
-        mine = consider(mine, v as u16, labels[v], state, own[v]);
-        beyond = consider(beyond, v as u16, theirs[v], state, other[v]);
+        mine = steps::consider(mine, v as u16, labels[v], state, own[v]);
+        beyond = steps::consider(beyond, v as u16, theirs[v], state, other[v]);
     }
     Next {
         own: mine,
         other: beyond,
     }
-}
-
-// A label plus another side's floor, exact in 64 bits.
-fn plus(label: u32, floor: i64) -> i64
-    requires { ⌜ mag floor < 2 ^ 40 ⌝ }
-    ensures { λ r. ⌜ r ≡ pos label +ℤ floor ⌝ }
-{
-    label as i64 + floor
-}
-
-// A sum less a potential is at least the best length.
-fn reaches(best: u32, sum: i64, potential: i32) -> bool
-    requires { ⌜ mag sum < 2 ^ 41 ⌝ }
-    ensures { λ r. ⌜ r ≡ leZ (pos best) (sum -ℤ potential) ⌝ }
-{
-    best as i64 <= sum - potential as i64
-}
-
-// Step 4: with a best length present, the node is rejected if either test says that no shorter route goes through it.
-fn reject(best: u32, label: u32, own: i32, target: i32, floor: i64, theirs: i32) -> bool
-    requires { ⌜ mag floor < 2 ^ 40 ⌝ }
-    ensures { λ r. ⌜ r ≡ rejects best label own target floor theirs ⌝ }
-{
-    if MISSING <= best {
-        return false;
-    }
-    if reaches(best, key(label, own), target) {
-        return true;
-    }
-    reaches(best, plus(label, floor), theirs)
 }
 
 // Node v gets label l and neighbour u; a lower sum of its two labels becomes the best length.
@@ -154,12 +77,14 @@ fn label_node(
     }
 }
 
-// Step 5: the arcs of u, in number order. An arc of another node, one to a node that has left, and one that gives no
-// lower label are passed over.
+// Step 5: the arcs of u, in number order: they are u's part of the index. One to a node that has left and one that gives
+// no lower label are passed over.
 fn open_node(
     near: &[u16],
     far: &[u16],
     weights: &[u32],
+    arcs: &[u16],
+    begins: &[u16],
     labels: &mut [u32],
     neighbours: &mut [u16],
     theirs: &[u32],
@@ -167,15 +92,15 @@ fn open_node(
     u: u16,
     so_far: Best,
 ) -> Best
-    requires { ⌜ Openable (now near) (now far) (now weights) (now labels) (now neighbours) (now theirs) (now states) u ⌝ }
+    requires { ⌜ Openable (now near) (now far) (now weights) (now arcs) (now begins) (now labels) (now neighbours) (now theirs) (now states) u ⌝ }
     ensures { λ r. ⌜ reach (now (labels .exit)) (now (neighbours .exit)) r ≡ lookEachByMark start (network (length (now (labels .entry))) (now (near .entry)) (now (far .entry)) (now (weights .entry))) (now (theirs .entry)) (now (states .entry)) u (arcsOf start (network (length (now (labels .entry))) (now (near .entry)) (now (far .entry)) (now (weights .entry))) u) (reach (now (labels .entry)) (now (neighbours .entry)) «so_far») ⌝ }
 {
     let mut best = so_far;
     let from = u as usize;
-    'arcs: for a in 0..near.len() {
-        if near[a] != u {
-            continue 'arcs;
-        }
+    let begin = begins[from] as usize;
+    let to = begins[from + 1] as usize;
+    'arcs: for k in begin..to {
+        let a = arcs[k] as usize;
         let v = far[a];
         let i = v as usize;
         if states[i] != UNDECIDED {
@@ -195,6 +120,8 @@ fn take_node(
     near: &[u16],
     far: &[u16],
     weights: &[u32],
+    arcs: &[u16],
+    begins: &[u16],
     own: &[i32],
     other: &[i32],
     labels: &mut [u32],
@@ -207,14 +134,14 @@ fn take_node(
     opened: u8,
     best: Best,
 ) -> Best
-    requires { ⌜ Openable (now near) (now far) (now weights) (now labels) (now neighbours) (now theirs) (now states) u ⌝ }
+    requires { ⌜ Openable (now near) (now far) (now weights) (now arcs) (now begins) (now labels) (now neighbours) (now theirs) (now states) u ⌝ }
     requires { ⌜ Passed (length (now states)) (now labels) (now own) (now theirs) (now other) ⌝ }
     requires { ⌜ (target < length (now own)) × (mag floor < 2 ^ 40) × (opened < 255) ⌝ }
     ensures { λ r. ⌜ took (now (labels .exit)) (now (neighbours .exit)) (now (states .exit)) r ≡ nodeTaken (network (length (now (labels .entry))) (now (near .entry)) (now (far .entry)) (now (weights .entry))) (now (own .entry)) (now (other .entry)) (now (theirs .entry)) u target floor opened (took (now (labels .entry)) (now (neighbours .entry)) (now (states .entry)) best) ⌝ }
 {
     let i = u as usize;
     let length = best.length;
-    if reject(
+    if steps::reject(
         length,
         labels[i],
         own[i],
@@ -230,6 +157,8 @@ fn take_node(
         near,
         far,
         weights,
+        arcs,
+        begins,
         labels,
         neighbours,
         theirs,
@@ -237,16 +166,6 @@ fn take_node(
         u,
         best,
     )
-}
-
-// Step 6: the floor is the key of the side's next candidate; with none it is not used any more and stays.
-fn floor_after(floor: i64, next: Candidate) -> i64
-    ensures { λ r. ⌜ r ≡ floorAfter floor (meant next) ⌝ }
-{
-    match next {
-        Candidate::Nothing => floor,
-        Candidate::Node(_, k) => k,
-    }
 }
 
 // Where a search stands, seen from one side: the best length and the meeting node, the side's own floor and the other
@@ -265,6 +184,8 @@ pub fn side_turn(
     near: &[u16],
     far: &[u16],
     weights: &[u32],
+    arcs: &[u16],
+    begins: &[u16],
     own: &[i32],
     other: &[i32],
     labels: &mut [u32],
@@ -276,7 +197,7 @@ pub fn side_turn(
     opened: u8,
     p: Progress,
 ) -> Progress
-    requires { ⌜ Openable (now near) (now far) (now weights) (now labels) (now neighbours) (now theirs) (now states) u ⌝ }
+    requires { ⌜ Openable (now near) (now far) (now weights) (now arcs) (now begins) (now labels) (now neighbours) (now theirs) (now states) u ⌝ }
     requires { ⌜ Passed (length (now states)) (now labels) (now own) (now theirs) (now other) ⌝ }
     requires { ⌜ (target < length (now own)) × (mag (p .beyond) < 2 ^ 40) × (opened < 255) × (mag (p .floor) < 2 ^ 40) ⌝ }
     ensures tables { λ r. ⌜ took (now (labels .exit)) (now (neighbours .exit)) (now (states .exit)) (bestOf r) ≡ nodeTaken (network (length (now (labels .entry))) (now (near .entry)) (now (far .entry)) (now (weights .entry))) (now (own .entry)) (now (other .entry)) (now (theirs .entry)) u target (p .beyond) opened (took (now (labels .entry)) (now (neighbours .entry)) (now (states .entry)) (bestOf p)) ⌝ }
@@ -291,6 +212,8 @@ pub fn side_turn(
         near,
         far,
         weights,
+        arcs,
+        begins,
         own,
         other,
         labels,
@@ -306,7 +229,7 @@ pub fn side_turn(
     let next = next_candidates(states, labels, own, theirs, other);
     let mine = next.own;
     let yours = next.other;
-    let floor = floor_after(p.floor, mine);
+    let floor = steps::floor_after(p.floor, mine);
     Progress {
         length: best.length,
         meeting: best.node,

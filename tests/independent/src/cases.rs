@@ -1,10 +1,11 @@
 //! The cases P1 to P12 (docs/RULES.md, "Cases") as files, and what the program `cases`
 //! should print of them, and of some of them at caps: the answer in words, the path, the five work lists, and the answer
-//! lines.
+//! lines. What it should print of indexes after that stands in `index_cases.rs`.
 
 use crate::check;
 use crate::frames::{self, Reader};
-use crate::model::{self, Answer, Fault, Figures, Outcome, Search};
+use crate::index_cases;
+use crate::model::{self, Answer, Fault, Figures, Network, Outcome, Query, Search};
 
 /// District D5 without a query, as docs/RULES.md, "District D5", prints it.
 pub const D5: &str = "0100050005
@@ -62,7 +63,7 @@ const LISTS: [&str; 5] = ["start labels", "start neighbours", "end labels", "end
 const AT_CAPS: [(usize, u16); 11] =
     [(0, 0), (0, 1), (0, 2), (0, 3), (0, 4), (0, 5), (0, 6), (1, 4), (2, 0), (3, 0), (3, 1)];
 
-/// The text of P1 to P12, in this order, and then of those at caps.
+/// The text of P1 to P12, in this order, then of those at caps, and then of indexes.
 pub fn text(fault: Option<Fault>) -> String {
     let files = files();
     let plain = files.iter().map(|(name, file)| case(name, file, None, fault));
@@ -70,13 +71,18 @@ pub fn text(fault: Option<Fault>) -> String {
         let (name, file) = &files[at];
         case(&format!("{name}, cap {cap}"), file, Some(cap), fault)
     });
-    plain.chain(capped).collect()
+    plain.chain(capped).chain([index_cases::builds(fault)]).collect()
 }
 
 fn case(name: &str, file: &str, cap: Option<u16>, fault: Option<Fault>) -> String {
     let read = frames::answer_file(file.as_bytes(), Reader::Program, fault);
     let (query, _) = &read.asked[0];
-    let outcome = model::answer(&read.network, &query.at(cap), fault);
+    asked(name, &read.network, &query.at(cap), fault)
+}
+
+/// What is printed of a query in a network that has at most as many nodes as the lent lists entries.
+pub fn asked(name: &str, network: &Network, query: &Query, fault: Option<Fault>) -> String {
+    let outcome = model::answer(network, query, fault);
     let path: Vec<i64> = match &outcome.answer {
         Answer::Route { path, .. } | Answer::Provisional { path, .. } => path.iter().map(|&node| node as i64).collect(),
         _ => Vec::new(),
@@ -92,10 +98,17 @@ fn case(name: &str, file: &str, cap: Option<u16>, fault: Option<Fault>) -> Strin
 
 /// The entries that a query leaves, and after a bar the old ones beyond them.
 fn list(title: &str, written: &[i64]) -> String {
+    let mut entries = vec![OLD; LENT];
+    entries[..written.len()].copy_from_slice(written);
+    row(title, &entries, written.len())
+}
+
+/// The entries of a list, with a bar before the one at this place.
+pub fn row(title: &str, entries: &[i64], bar: usize) -> String {
     let mut text = format!("  {title}:");
-    for at in 0..LENT {
-        let bar = if at == written.len() { " |" } else { "" };
-        text += &format!("{bar} {}", written.get(at).unwrap_or(&OLD));
+    for (at, entry) in entries.iter().enumerate() {
+        let bar = if at == bar { " |" } else { "" };
+        text += &format!("{bar} {entry}");
     }
     text + "\n"
 }

@@ -148,8 +148,10 @@ fn one_seed(plan: &Plan, seed: u64, entry: Option<&mut Entry>, counts: &Mutex<Co
     Ok(())
 }
 
-/// Every accepted query, against the demands; and those that differ in their caps alone, against each other.
+/// Every accepted query, against the demands; those that differ in their caps alone, against each other; and no answer is a
+/// refusal of an index.
 pub fn own_tests(seed: u64, expected: &FileAnswer, fault: Option<Fault>) -> Result<(), String> {
+    laws::no_index_refused(&expected.output)?;
     let others = make::other_patterns(seed, if expected.network.nodes.len() <= 64 { 3 } else { 1 });
     for (number, (query, answer)) in expected.asked.iter().enumerate() {
         if !matches!(answer, Answer::Refused(_)) {

@@ -1,6 +1,7 @@
 //! Demands 2 and 3, and what is promised of capped queries (docs/RULES.md, "Capped queries"), as tests of
 //! one accepted query's answer and tables, against a plain Bellman-Ford that knows nothing of potentials, turns or
-//! sides' floors; and of the answers to the same query at two caps.
+//! sides' floors; of the answers to the same query at two caps; and of all that a file is answered, that no index is
+//! refused in it.
 
 use crate::model::{self, Answer, Fault, Network, Outcome, Query, Search, Side, State};
 
@@ -195,4 +196,13 @@ fn test_beginning(tables: &Search, node: usize) -> Broken {
         demand(half.neighbours.iter().all(Option::is_none), || "a neighbour at the beginning".into())?;
     }
     demand(tables.states.iter().all(|state| *state == State::Undecided), || "a node left".into())
+}
+
+/// 19 and 20, in hexadecimal 13 and 14, never come from a file.
+pub fn no_index_refused(output: &[u8]) -> Broken {
+    let refused = |line: &&[u8]| line.starts_with(b"FF13") || line.starts_with(b"FF14");
+    match output.split(|&byte| byte == b'\n').find(refused) {
+        Some(line) => Err(format!("{} comes from a file", String::from_utf8_lossy(line))),
+        None => Ok(()),
+    }
 }

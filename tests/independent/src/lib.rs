@@ -9,6 +9,8 @@ pub mod check;
 mod damage;
 pub mod display;
 pub mod frames;
+pub mod index;
+pub mod index_cases;
 pub mod laws;
 pub mod make;
 pub mod model;

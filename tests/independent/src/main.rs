@@ -3,6 +3,7 @@
 use independent::cases;
 use independent::check::{self, Plan};
 use independent::frames::{self, Reader};
+use independent::index_cases;
 use independent::make;
 use independent::model::Fault;
 use independent::selftest;
@@ -19,8 +20,8 @@ independent check [flags]     compare routeline (and the display entry) with the
   --fresh N                   N fresh seeds, counted from the time
   --routeline PATH            the program (default target/bin/routeline under the repository root)
   --display PATH              the program made of c/entry.c (default none: the display entry is left out)
-  --fault NAME                a deliberate fault in the model, or `all`; exit code 0 if it is found
-                              (README.md lists the names); ends once it was seen in 3 files
+  --fault NAME                a deliberate fault in the model, or `all` that show in files; exit code 0 if it is
+                              found (README.md lists the names); ends once it was seen in 3 files
   --self                      compare the model with itself instead of with routeline
   --without WHAT              leave out `routeline`, `display` or `live`
   --out DIR                   where a file with a difference is left (default target/independent)
@@ -30,7 +31,8 @@ independent answer [--display] [--fault NAME] < FILE   print the independent ans
 independent make SEED         print the file of a seed
 independent show < FILE       print a file's network in words
 independent tables < FILE     print the work lists after each query
-independent cases [--fault NAME]   print P1 to P12, and some at caps, with their work lists, as the program `cases` should
+independent cases [--fault NAME]     print P1 to P12, some at caps, with their work lists, and builds, as `cases` should
+independent indexes [--fault NAME]   print edits, and queries over indexes, as the program of rattle/ should
 ";
 
 fn main() -> ExitCode {
@@ -45,7 +47,8 @@ fn main() -> ExitCode {
         "make" => make_file(rest),
         "show" => show(),
         "tables" => tables(),
-        "cases" => p_cases(rest),
+        "cases" => reckoned(rest, cases::text),
+        "indexes" => reckoned(rest, index_cases::text),
         _ => Err(format!("no command {command}")),
     };
     match done {
@@ -139,7 +142,7 @@ fn fault(name: &str) -> Result<Fault, String> {
 
 fn faults(name: &str) -> Result<Vec<Fault>, String> {
     if name == "all" {
-        return Ok(Fault::ALL.to_vec());
+        return Ok(Fault::OF_FILES.to_vec());
     }
     Ok(vec![fault(name)?])
 }
@@ -189,11 +192,12 @@ fn tables() -> Result<bool, String> {
     Ok(true)
 }
 
-fn p_cases(arguments: &[String]) -> Result<bool, String> {
+/// Prints what a program should print, with a fault if one is named.
+fn reckoned(arguments: &[String], text: fn(Option<Fault>) -> String) -> Result<bool, String> {
     let chosen = match arguments {
         [] => None,
         [flag, name] if flag == "--fault" => Some(fault(name)?),
-        _ => return Err("cases takes no flag but --fault NAME".into()),
+        _ => return Err("there is no flag but --fault NAME".into()),
     };
-    print(cases::text(chosen).as_bytes())
+    print(text(chosen).as_bytes())
 }

@@ -125,10 +125,29 @@ pub enum Fault {
     FloorsAlone,
     /// The excess is reckoned from the floors alone, without the number 0 beside them.
     ZeroLeftOut,
+    /// 20 is tested before 7: bad arcs have no index, and are refused by it.
+    IndexBeforeArcs,
+    /// A node's arcs stand in the index from the highest number to the lowest.
+    FallingOrder,
+    /// The arcs out of a node and those into it are exchanged.
+    WaysExchanged,
+    /// A move exchanges the arc with the one at its new place; the entries between stay.
+    ForgetsTheEntriesBetween,
+    /// A move leaves the places where the nodes' arcs begin.
+    BeginsStay,
+    /// An edit that is refused for its values has changed the weight.
+    WeightBeforeRefusal,
+    /// An edit's new values are tested before its number.
+    ValuesBeforeNumber,
+    /// 20 looks at the entries beyond the index too.
+    TestsBeyondTheIndex,
+    /// 20 is never given.
+    IndexNotTested,
 }
 
 impl Fault {
-    pub const ALL: [Fault; 18] = [
+    /// Those that can show in the answers to files.
+    pub const OF_FILES: [Fault; 19] = [
         Fault::FirstMeeting,
         Fault::HighestAmongEquals,
         Fault::FloorBeforeTurn,
@@ -147,6 +166,20 @@ impl Fault {
         Fault::PotentialsExchanged,
         Fault::FloorsAlone,
         Fault::ZeroLeftOut,
+        Fault::IndexBeforeArcs,
+    ];
+
+    /// Those that can show in indexes.
+    pub const OF_INDEXES: [Fault; 9] = [
+        Fault::IndexBeforeArcs,
+        Fault::FallingOrder,
+        Fault::WaysExchanged,
+        Fault::ForgetsTheEntriesBetween,
+        Fault::BeginsStay,
+        Fault::WeightBeforeRefusal,
+        Fault::ValuesBeforeNumber,
+        Fault::TestsBeyondTheIndex,
+        Fault::IndexNotTested,
     ];
 
     pub fn name(self) -> &'static str {
@@ -169,11 +202,20 @@ impl Fault {
             Fault::PotentialsExchanged => "potentials-exchanged",
             Fault::FloorsAlone => "floors-alone",
             Fault::ZeroLeftOut => "zero-left-out",
+            Fault::IndexBeforeArcs => "index-before-arcs",
+            Fault::FallingOrder => "falling-order",
+            Fault::WaysExchanged => "ways-exchanged",
+            Fault::ForgetsTheEntriesBetween => "forgets-the-entries-between",
+            Fault::BeginsStay => "begins-stay",
+            Fault::WeightBeforeRefusal => "weight-before-refusal",
+            Fault::ValuesBeforeNumber => "values-before-number",
+            Fault::TestsBeyondTheIndex => "tests-beyond-the-index",
+            Fault::IndexNotTested => "index-not-tested",
         }
     }
 
     pub fn named(name: &str) -> Option<Fault> {
-        Fault::ALL.into_iter().find(|fault| fault.name() == name)
+        Fault::OF_FILES.into_iter().chain(Fault::OF_INDEXES).find(|fault| fault.name() == name)
     }
 }
 
@@ -191,7 +233,8 @@ pub fn size_refusal(nodes: usize, arcs: usize) -> Option<Refusal> {
 }
 
 /// The table's numbers 1 to 9 in order. Numbers 3 and 6 and the first half of 2
-/// cannot arise here: arcs and nodes are lists of structs, and no list is lent.
+/// cannot arise here: arcs and nodes are lists of structs, and no list is lent. Nor can 19 and 20, which are about an
+/// index: `index.rs` has those.
 pub fn refusal(network: &Network, query: &Query, fault: Option<Fault>) -> Option<Refusal> {
     let count = network.nodes.len();
     if let Some(refusal) = size_refusal(count, network.arcs.len()) {
@@ -204,6 +247,9 @@ pub fn refusal(network: &Network, query: &Query, fault: Option<Fault>) -> Option
         return Some(Refusal { number: 5, place: 0 });
     }
     if let Some(place) = bad_arc(network, fault, |arc| malformed(arc, count)) {
+        if fault == Some(Fault::IndexBeforeArcs) {
+            return Some(Refusal { number: 20, place: 0 });
+        }
         return Some(Refusal { number: 7, place });
     }
     if let Some(node) = network.nodes.iter().position(out_of_range) {
@@ -219,7 +265,8 @@ fn sound_pattern(pattern: &[u8]) -> bool {
     !pattern.is_empty() && pattern.len() <= LONGEST_PATTERN && pattern.iter().all(|&entry| entry <= 1)
 }
 
-fn malformed(arc: &Arc, nodes: usize) -> bool {
+/// What 7 asks of an arc.
+pub fn malformed(arc: &Arc, nodes: usize) -> bool {
     arc.tail as usize >= nodes || arc.head as usize >= nodes || arc.weight > TOP_WEIGHT
 }
 

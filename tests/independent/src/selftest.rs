@@ -1,10 +1,11 @@
-//! Tests of the independent program itself: the cases (docs/RULES.md, "Cases"), capped queries, the order of
+//! Tests of the independent program itself: the cases (docs/RULES.md, "Cases"), capped queries, indexes, the order of
 //! lines, the demands over made files, and that the tests notice faults.
 
 use crate::cases::{self, D5, ZERO};
 use crate::check;
 use crate::display::{self, Shown};
 use crate::frames::{self, answer_file, answer_file_up_to, Reader};
+use crate::index_cases;
 use crate::laws;
 use crate::make;
 use crate::model::{self, Answer, Arc, Fault, Figures, Network, Node, Query, MOST_NODES, TOP_WEIGHT};
@@ -13,10 +14,12 @@ type Passed = Result<(), String>;
 
 type Test = (&'static str, fn() -> Passed);
 
-const TESTS: [Test; 15] = [
+const TESTS: [Test; 19] = [
     ("the cases P1 to P12", p_cases),
     ("the cases that are run only", run_only_cases),
     ("district D5 at each cap", capped_cases),
+    ("indexes by hand", indexes_by_hand),
+    ("every kind of edit is drawn", kinds_of_edits),
     ("sound frames and others", sound_frames),
     ("the order of lines", order_of_lines),
     ("line 4,294,967,295", last_line),
@@ -29,6 +32,8 @@ const TESTS: [Test; 15] = [
     ("capped queries at every size", caps_at_every_size),
     ("what a larger cap takes back is noticed", taken_back),
     ("every fault is noticed", faults_noticed),
+    ("every fault of an index is noticed", index_faults_noticed),
+    ("19 and 20 in a file's answer are noticed", index_refusals_noticed),
 ];
 
 pub fn run() -> bool {
@@ -147,6 +152,61 @@ fn capped_cases() -> Passed {
     same("at a cap, the entry 2", &program(&format!("{D5}0700000003000001{}\n", 2)), "FF0500000000\n")?;
     let inconsistent = cases::pair("00000001", "0000000200000000", ZERO, "07000000010000010");
     same("at a cap, refusal 9", &program(&inconsistent), "FF0900000000\n")
+}
+
+// ---------------------------------------------------------------- indexes
+
+/// What is printed of some builds, edits and queries, with the lists worked out on paper.
+fn indexes_by_hand() -> Passed {
+    let text = index_cases::builds(None) + &index_cases::text(None);
+    let by_hand = [
+        "index of D5: accepted
+  out arcs: 0 3 1 2 4 | 77 77 77
+  out begins: 0 2 3 4 4 5 | 77 77
+  in arcs: 0 1 2 4 3 | 77 77 77
+  in begins: 0 0 1 2 4 5 | 77 77
+",
+        "index with loops: accepted
+  out arcs: 0 3 1 4 2 | 77 77 77
+  out begins: 0 2 4 5 | 77 77 77 77
+  in arcs: 2 0 1 3 4 | 77 77 77
+  in begins: 0 1 5 5 | 77 77 77 77
+",
+        "edit, first arc: accepted
+  tails: 4 1 2 0 4
+  heads: 0 2 3 4 3
+  weights: 1 1 1 2 2
+  out arcs: 3 1 2 0 4 | 77 77 77
+  out begins: 0 1 2 3 3 5 | 77 77
+  in arcs: 0 1 2 4 3 | 77 77 77
+  in begins: 0 1 1 2 4 5 | 77 77
+",
+        "edit, no such arc: refused, FF1300000005\n",
+        "edit, bad head: refused, FF0700000002\n",
+        "edit, wrong in begins: refused, FF1400000000\n",
+        "edit, wrong index and no such arc: refused, FF1400000000\n",
+        "edit, no such arc and bad values: refused, FF1300000005\n",
+        "edit, bad arc before all of these: refused, FF0700000002\n",
+        "index, bad tail: refused, FF0700000002\n",
+        "index, eight nodes: refused, FF0600000000\n",
+        "query, in begins one short: refused, FF0600000000\n",
+        "query, 20 and 7: refused, FF0700000000\n",
+        "query, 20 and 8: refused, FF1400000000\n",
+        "query, 8: refused, FF0800000000\n",
+        "query: accepted\n",
+    ];
+    match by_hand.iter().find(|part| !format!("\n{text}").contains(&format!("\n{part}"))) {
+        Some(part) => Err(format!("not printed: {part}")),
+        None => Ok(()),
+    }
+}
+
+fn kinds_of_edits() -> Passed {
+    let (_, kinds) = index_cases::drawn(None);
+    match kinds.iter().find(|(_, count)| *count < 3) {
+        Some((kind, count)) => Err(format!("only {count} {kind}")),
+        None => Ok(()),
+    }
 }
 
 // ---------------------------------------------------------------- frames and files
@@ -440,14 +500,14 @@ const BREAKING: [Fault; 3] = [Fault::FirstMeeting, Fault::FloorsAlone, Fault::No
 /// Each fault changes the answers to some file, and each that breaks a promise is seen to do so.
 fn faults_noticed() -> Passed {
     let mut broken = [false; BREAKING.len()];
-    let mut seen = [false; Fault::ALL.len()];
+    let mut seen = [false; Fault::OF_FILES.len()];
     for seed in 1..1_500 {
         let file = make::file(seed).bytes;
         let sound = answer_file(&file, Reader::Program, None);
         for (fault, broken) in BREAKING.into_iter().zip(&mut broken) {
             *broken = *broken || check::own_tests(seed, &sound, Some(fault)).is_err();
         }
-        for (fault, seen) in Fault::ALL.into_iter().zip(&mut seen) {
+        for (fault, seen) in Fault::OF_FILES.into_iter().zip(&mut seen) {
             *seen = *seen || answer_file(&file, Reader::Program, Some(fault)).output != sound.output;
         }
     }
@@ -455,8 +515,33 @@ fn faults_noticed() -> Passed {
         return Err(format!("the demands' tests pass {}", BREAKING[at].name()));
     }
     match seen.iter().position(|seen| !seen) {
-        Some(at) => Err(format!("{} is not noticed", Fault::ALL[at].name())),
+        Some(at) => Err(format!("{} is not noticed", Fault::OF_FILES[at].name())),
         None => Ok(()),
+    }
+}
+
+/// Each fault of an index changes what is printed of indexes.
+fn index_faults_noticed() -> Passed {
+    let sound = index_cases::text(None);
+    match Fault::OF_INDEXES.iter().find(|&&fault| index_cases::text(Some(fault)) == sound) {
+        Some(fault) => Err(format!("{} is not noticed", fault.name())),
+        None => Ok(()),
+    }
+}
+
+/// The fault by which a file is refused for its index breaks what is promised of files.
+fn index_refusals_noticed() -> Passed {
+    let lines = [("FF0400000000\nFF1300000000\n", false), ("FF1400000000\n", false), ("820013\nFF0700000014\n", true)];
+    for (output, right) in lines {
+        if laws::no_index_refused(output.as_bytes()).is_ok() != right {
+            return Err(format!("{output:?} is misjudged"));
+        }
+    }
+    let answers =
+        |seed: u64| answer_file(&make::file(seed).bytes, Reader::Program, Some(Fault::IndexBeforeArcs)).output;
+    match (1..1_500).any(|seed| laws::no_index_refused(&answers(seed)).is_err()) {
+        true => Ok(()),
+        false => Err("no file shows it".into()),
     }
 }
 

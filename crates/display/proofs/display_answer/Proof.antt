@@ -28,21 +28,33 @@ slice-aggregate-gather-6 c = search needs
 slice-aggregate-gather-7 : tie.Need-slice-aggregate-gather-7
 slice-aggregate-gather-7 c = search needs
 
+slice-aggregate-gather-8 : tie.Need-slice-aggregate-gather-8
+slice-aggregate-gather-8 c = search needs
+
+slice-aggregate-gather-9 : tie.Need-slice-aggregate-gather-9
+slice-aggregate-gather-9 c = search needs
+
+slice-aggregate-gather-10 : tie.Need-slice-aggregate-gather-10
+slice-aggregate-gather-10 c = search needs
+
+slice-aggregate-gather-11 : tie.Need-slice-aggregate-gather-11
+slice-aggregate-gather-11 c = search needs
+
 gather-requires : tie.Need-gather-requires
 gather-requires c κs = search needs
 
 -- the count of the gathered text lies within it
 array-share-prefix-text : tie.Need-array-share-prefix-text
 array-share-prefix-text c =
-    let entry = c .before .before .before .before .before .before .before .before .before .before .before .before .before .before .before .before .before in
-    let gathered = c .before .before .before .before .before .before .before .gather in
+    let entry = c .before .before .before .before .before .before .before .before .before .before .before .before .before .before .before .before .before .before .before .before .before .before .before .before .before in
+    let gathered = c .before .before .before .before .before .before .before .before .before .before .before .gather in
     let file = entry .args .file .now in
     omega (arith, gathered .ensures .count-is, display-bytes file)
 
 slice-aggregate-place : tie.Need-slice-aggregate-place
 slice-aggregate-place c =
-    let entry = c .before .before .before .before .before .before .before .before .before .before .before .before .before .before .before .before .before .before in
-    let gathered = c .before .before .before .before .before .before .before .before .gather in
+    let entry = c .before .before .before .before .before .before .before .before .before .before .before .before .before .before .before .before .before .before .before .before .before .before .before .before .before .before in
+    let gathered = c .before .before .before .before .before .before .before .before .before .before .before .before .gather in
     let file = entry .args .file .now in
     simp length-take (omega (arith, gathered .ensures .count-is, display-bytes file))
 
@@ -54,7 +66,7 @@ same-length c = search needs
 
 returns : tie.Need-returns
 returns c =
-    let gathered = c .before .before .before .before .before .before .before .before .before .before .before .before .gather in
+    let gathered = c .before .before .before .before .before .before .before .before .before .before .before .before .before .before .before .before .gather in
     let placed = c .before .before .place in
     placed-as (laid-front _ _ _ _ (gathered .ensures)) (placed .ensures)
 
@@ -69,6 +81,10 @@ display-answer-spec =
     slice-aggregate-gather-5
     slice-aggregate-gather-6
     slice-aggregate-gather-7
+    slice-aggregate-gather-8
+    slice-aggregate-gather-9
+    slice-aggregate-gather-10
+    slice-aggregate-gather-11
     gather-requires
     array-share-prefix-text
     slice-aggregate-place

@@ -9,7 +9,7 @@ use Rattle.frames.specs.Digits.{valueOf, valueTable}
 use Rattle.frames.specs.Frame.{entriesOf, patternOf}
 use Rattle.frames.specs.FrameCases.{query-length}
 use Rattle.frames.specs.RoomLaws.{laid-placed, too-little-room, nothing-placed}
-use Rattle.frames.specs.LineSteps.{query-pattern, length-pattern}
+use Rattle.frames.specs.PatternLaws.{query-pattern, length-pattern}
 use Rattle.frames.specs.declared.Frame.{Frame}
 use Rattle.frames.specs.declared.Frame.the-variants.{Size, Arc, TwoWay, Potentials, Query, Unsound}
 use Rattle.frames.proofs.Frame.{the-type}

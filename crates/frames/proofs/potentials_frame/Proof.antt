@@ -1,4 +1,5 @@
--- `frames::potentials_frame` meets its contract: it reads the definition's fields in a line of the definition's length. Assumes nothing.
+-- `frames::potentials_frame` meets its contract: it reads the definition's fields in a line of the definition's length. Assumes
+-- nothing.
 use mir.Syntax.{w32}
 use mir.Facts.{toZ-ofZ}
 use mathlib.Core.Path.{_≡_, ap, _∙_}

@@ -7,7 +7,7 @@ use native.Mathlib.Omega.{arith}
 use lib.ListN.{length}
 use Rattle.frames.specs.Frame.{entriesFrom}
 use Rattle.frames.specs.RoomLaws.{Underway, underway-start, underway-entry, underway-end}
-use Rattle.frames.specs.LineSteps.{entries-more, entries-all-read, length-entries}
+use Rattle.frames.specs.PatternLaws.{entries-more, entries-all-read, length-entries}
 use Rattle.frames.proofs.write_entries.Statement.{statement}
 use Rattle.frames.proofs.write_entries.Tie as tie
 

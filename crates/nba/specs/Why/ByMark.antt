@@ -9,7 +9,7 @@ use lib.ListN.{getD, set}
 use Rattle.network.specs.Network.{Side, other, Network, far, weight}
 use Rattle.network.specs.Query.{Query, sideOfTurn}
 use Rattle.nba.specs.State.{missing, State, half, undecided, openedBy}
-use Rattle.nba.specs.Search.{atBeginning, Chosen, none, node, candidate, ended, rejected, arcsBelow, arcsOf, Reach, afterReach, reachOf, rejecting}
+use Rattle.nba.specs.Search.{atBeginning, Chosen, none, node, candidate, ended, rejected, arcsOf, Reach, afterReach, reachOf, rejecting}
 
 -- node v gets label l and neighbour u; if the sum of its two labels is less than the best length, the sum becomes the best
 -- length and v the meeting node (a missing label makes a sum that is less than no best length)
@@ -36,10 +36,6 @@ lookByMark s g theirs states u a r =
 unfoldable pub lookEachByMark : Side → Network → List ℕ → List ℕ → ℕ → List ℕ → Reach → Reach
 lookEachByMark s g theirs states u [] r = r
 lookEachByMark s g theirs states u (a ∷ rest) r = lookEachByMark s g theirs states u rest (lookByMark s g theirs states u a r)
-
--- what looking at the arcs of u below number a leaves: a scan over all arc numbers
-unfoldable pub scanByMark : Side → Network → List ℕ → List ℕ → ℕ → ℕ → Reach → Reach
-scanByMark s g theirs states u a r = lookEachByMark s g theirs states u (arcsBelow s g u a) r
 
 -- u is opened
 unfoldable pub openingByMark : Query → Side → ℕ → State → State

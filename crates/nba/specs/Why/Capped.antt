@@ -1,5 +1,5 @@
--- What is demanded of an answer at a cap (docs/RULES.md, "Capped queries"), of every sound query and every turn pattern: honest, and
--- never taken back. And there is one search: without a cap it is the one at as many turns as there are nodes. Assumes nothing.
+-- What is demanded of an answer at a cap (docs/RULES.md, "Capped queries"), of every sound query and every turn pattern: honest,
+-- and never taken back. And there is one search: without a cap it is the one at as many turns as there are nodes. Assumes nothing.
 use mathlib.Core.Path.{_≡_, refl, sym, ap, _∙_}
 use mathlib.Core.Logic.{_≢_}
 use mathlib.Core.Bool.{true, false}

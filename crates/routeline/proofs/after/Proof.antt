@@ -9,15 +9,15 @@ told-requires c κs = search needs
 
 look-requires : tie.Need-look-requires
 look-requires c κs =
-    let entry = c .before .before .before .before .before .before .before .before .before .before in
-    let told = c .before .before .before .before .before .before .before .before .told in
+    let entry = c .before .before .before .before .before .before .before .before .before .before .before .before .before .before in
+    let told = c .before .before .before .before .before .before .before .before .before .before .before .before .told in
     let asked = entry .pre in
     told .ensures .law _ _ (asked .0) (asked .1 .0) .sits
 
 returns : tie.Need-returns
 returns c =
-    let entry = c .before .before .before .before .before .before .before .before .before .before .before in
-    let told = c .before .before .before .before .before .before .before .before .before .told in
+    let entry = c .before .before .before .before .before .before .before .before .before .before .before .before .before .before .before in
+    let told = c .before .before .before .before .before .before .before .before .before .before .before .before .before .told in
     let asked = entry .pre in
     follows _ _ _ _ _ _ _ (asked .0) (asked .1 .0) (told .ensures) _ _ _ (c .look .ensures)
 

@@ -1,6 +1,6 @@
--- `routeline::pause` ends and gives back what it lends: a walk of its statements, by hand. Each of the two records is lent to `nanosleep` for a
--- lifetime that is made for the call; both lifetimes end after it, and each record's cell is whole again, whatever it then holds,
--- and is freed. All that is known of `nanosleep` is that it meets its contract. Assumes nothing.
+-- `routeline::pause` ends and gives back what it lends: a walk of its statements, by hand. Each of the two records is lent to
+-- `nanosleep` for a lifetime that is made for the call; both lifetimes end after it, and each record's cell is whole again,
+-- whatever it then holds, and is freed. All that is known of `nanosleep` is that it meets its contract. Assumes nothing.
 use mathlib.Core.Path.{refl}
 use Prim.Native.Nat.{ℕ}
 use mathlib.Core.List.{[], _∷_, List}
@@ -86,7 +86,8 @@ module _ {M : Type 1} (𝓤 : URA M) (H : Heap 𝓤) (𝓜 : Model 𝓤 H) (𝓖
       move ! (9 ∷ []) $ owned ! R (Is R) (makes the-type the-plain 𝓤 H A) (time 0) _ (owes the-type the-laws (time 0) ((refl, lit< tt), ((refl, lit< tt), tt))) $ move ! (1 ∷ 0 ∷ []) $
       use2 W (‵ (partAt R fullShare (time 0) l₂ 0)) (part-in 𝓤 H A W R refl fullShare (time 0) l₂ 0 _) $ lft-new ! tt (λ β. move ! (1 ∷ []) $
       use1 W (later (some (λ (δ : GName). ‵ (MutRef (named 1) (β ∷ []) R .own (ref 0 l₂ δ) (vptr l₂ 0 ∷ [])) ⊛ ‵ (flent (β ∷ []) (Body (mem R) l₂ 0 δ))))) (lends-ref 𝓤 H A W R (named 1) (β ∷ []) (time 0) l₂ 0) $ await ! tt $ pick ! (λ δ. split ! $
-      -- [the second reference; its lender's part; β's token; the first reference; its lender's part; α's token; the locals]: the call takes the tokens and the references
+      -- [the second reference; its lender's part; β's token; the first reference; its lender's part; α's token; the locals]: the
+      -- call takes the tokens and the references
       nothing ! $ move ! (1 ∷ 0 ∷ []) $ fjoin ! $ move ! (3 ∷ 0 ∷ []) $ fjoin ! $ nothing ! $ move ! (3 ∷ 0 ∷ []) $ join ! $ move ! (4 ∷ 0 ∷ []) $ join ! $ join ! $ nothing ! $ move ! (1 ∷ 0 ∷ []) $ join ! $ use1 W (raw (Nanosleep .pre (to α β l₁ l₂ γ δ))) (id⊢ 𝓤 _) $
       calls-at ! (fmOf 𝓤 H (W .laws) (tablesOf 𝓤 H 𝓜 (tables 𝓤 H 𝓜 𝓡 code.env))) Nanosleep (cited 𝓤 H Nanosleep 𝓜 𝓡 code.env #nanosleep routine code.calls-libc·nanosleep (met 𝓤 H 𝓜 𝓖 𝓡)) (to α β l₁ l₂ γ δ)
       (and-then ! (load ! (from ! (stop !)) (look ! 5 refl)) (and-then ! (load ! (from ! (stop !)) (look ! 3 refl)) (no-more !))) (λ v.

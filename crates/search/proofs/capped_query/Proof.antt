@@ -2,17 +2,21 @@
 use mathlib.Core.Path.{sym, _∙_}
 use Rattle.network.specs.Network.{network}
 use Rattle.network.specs.Query.{Query, query}
+use Rattle.index.specs.Index.{Index, index}
 use Rattle.search.specs.Promise.{LentLists, lentLists}
 use Rattle.search.proofs.AnswerLaws.{kept-refused, kept-accepted}
 use borrow.Author.Needs.{needs}
 use Rattle.search.proofs.capped_query.Statement.{statement}
 use Rattle.search.proofs.capped_query.Tie as tie
 
--- the query and the lists at entry
+-- the query, the index and the lists at entry
 abbrev asked : tie.Start → Query
 asked s =
     query (network (s .args .nodes) (s .args .tails .now) (s .args .heads .now) (s .args .weights .now)) (s .args .forward .now) (s .args .backward .now)
     (s .args .start) (s .args .end) (s .args .pattern .now)
+
+abbrev over : tie.Start → Index
+over s = index (s .args .out-arcs .now) (s .args .out-begins .now) (s .args .in-arcs .now) (s .args .in-begins .now)
 
 abbrev lent : tie.Start → LentLists
 lent s =
@@ -36,10 +40,10 @@ search-accepted-requires c κs =
 
 returns : tie.Need-returns
 returns c =
-    let entry = c .before .before .before .before .before .before .before .before .before .before .before .before .before .before in
+    let entry = c .before .before .before .before .before .before .before .before .before .before .before .before .before .before .before .before .before .before in
     let check-query = c .before .before .before .check-query in
     let verdict = c .before .verdict in
-    kept-refused (asked entry) (entry .args .cap) (lent entry) _ (sym (check-query .ensures) ∙ verdict .given .1)
+    kept-refused (asked entry) (over entry) (entry .args .cap) (lent entry) _ (sym (check-query .ensures) ∙ verdict .given .1)
 
 same-length : tie.Need-same-length
 same-length c =
@@ -71,11 +75,11 @@ same-length-6 c = c .before .path .given
 
 returns-2 : tie.Need-returns-2
 returns-2 c =
-    let entry = c .before .before .before .before .before .before .before .before .before .before .before .before .before .before .before .before .before .before .before .before .before .before .before .before .before .before .before .before .before .before .before .before in
+    let entry = c .before .before .before .before .before .before .before .before .before .before .before .before .before .before .before .before .before .before .before .before .before .before .before .before .before .before .before .before .before .before .before .before .before .before .before .before in
     let check-query = c .before .before .before .before .before .before .before .before .before .before .before .before .before .before .before .before .before .before .before .before .before .check-query in
     let enum-told = c .before .before .before .before .before .before .before .before .before .before .before .before .before .before .before .before .before .before .before .enum-told in
     let search-accepted = c .before .before .before .before .before .before .before .before .before .before .before .before .search-accepted in
-    kept-accepted (asked entry) (entry .args .cap) (lent entry) _ _ (sym (check-query .ensures) ∙ enum-told .given .1) (search-accepted .ensures)
+    kept-accepted (asked entry) (over entry) (entry .args .cap) (lent entry) _ _ (sym (check-query .ensures) ∙ enum-told .given .1) (search-accepted .ensures)
 
 pub capped-query-spec : {M : Type 1} → statement M
 capped-query-spec =

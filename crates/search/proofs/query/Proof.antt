@@ -38,7 +38,7 @@ same-length-6 c = c .before .path .given
 returns : tie.Need-returns
 returns c =
     let capped-query = c .before .before .before .before .before .before .before .before .before .before .before .before .capped-query in
-    capped-query-kept _ _ _ _ (capped-query .ensures)
+    capped-query-kept _ _ _ _ _ (capped-query .ensures)
 
 pub query-spec : {M : Type 1} → statement M
 query-spec =

@@ -2,7 +2,7 @@
 use mathlib.Core.Path.{refl, sym}
 use native.Mathlib.Omega.{arith}
 use lib.Seq.{length-take-le}
-use Rattle.frames.specs.LineSteps.{pattern-short}
+use Rattle.frames.specs.PatternLaws.{pattern-short}
 use Rattle.district.specs.QueryLaws.{pattern-whole, laid-front}
 use borrow.Author.Needs.{needs}
 use Rattle.district.proofs.answer.answer_query.Statement.{statement}
@@ -16,13 +16,13 @@ pattern-requires c κs = search needs
 
 array-share-prefix-entries : tie.Need-array-share-prefix-entries
 array-share-prefix-entries c =
-    let entry = c .before .before .before .before .before .before .before .before in
+    let entry = c .before .before .before .before .before .before .before .before .before .before .before .before in
     let pattern = c .before .pattern in
     omega (arith, pattern-whole (entry .args .line .now) _ _ _ refl (pattern .ensures) .count-is, pattern-short (entry .args .line .now))
 
 slice-aggregate-write-lines : tie.Need-slice-aggregate-write-lines
 slice-aggregate-write-lines c =
-    let entry = c .before .before .before .before .before .before .before .before .before in
+    let entry = c .before .before .before .before .before .before .before .before .before .before .before .before .before in
     let pattern = c .before .before .pattern in
     sym (length-take-le _ _ (omega (
       arith,
@@ -38,7 +38,7 @@ same-length c = search needs
 
 returns : tie.Need-returns
 returns c =
-    let entry = c .before .before .before .before .before .before .before .before .before .before .before .before .before in
+    let entry = c .before .before .before .before .before .before .before .before .before .before .before .before .before .before .before .before .before in
     let pattern = c .before .before .before .before .before .before .pattern in
     let write-lines = c .before .before .write-lines in
     rw (← laid-front _ _ _ _ (pattern-whole (entry .args .line .now) _ _ _ refl (pattern .ensures))) (write-lines .ensures)

@@ -22,7 +22,7 @@ same-length c = search needs
 
 returns : tie.Need-returns
 returns c =
-    let entry = c .before .before .before .before .before .before .before .before .before .before in
+    let entry = c .before .before .before .before .before .before .before .before .before .before .before .before .before .before in
     let match = c .before .before .before .before .match in
     let refuse-frame = c .before .before .refuse-frame in
     stepped-as (no-query (fileOf _ _) (entry .args .frame) (not-among 4 0 1 2 3 5 (λ p q. omega arith) (λ p q. omega arith) (λ p q. omega arith) (λ p q. omega arith) (λ p q. omega arith) (match .keys2))) (refuse-frame .ensures .law _ (entry .pre .1 .1))
@@ -38,7 +38,7 @@ same-length-2 c = search needs
 
 returns-2 : tie.Need-returns-2
 returns-2 c =
-    let entry = c .before .before .before .before .before .before .before .before .before .before .before .before .before .before in
+    let entry = c .before .before .before .before .before .before .before .before .before .before .before .before .before .before .before .before .before .before in
     let frame = c .before .before .before .before .before .before .before .frame in
     let one-too-many-here = c .before .before .before .before .before .one-too-many in
     let if1 = c .before .before .before .before .if1 in
@@ -50,37 +50,37 @@ turns-given-requires c κs = search needs
 
 slice-aggregate-answer-query : tie.Need-slice-aggregate-answer-query
 slice-aggregate-answer-query c =
-    let entry = c .before .before .before .before .before .before .before .before .before .before .before .before in
+    let entry = c .before .before .before .before .before .before .before .before .before .before .before .before .before .before .before .before in
     sym (length-take-le _ _ (omega (arith, entry .pre .1 .1 .counted, entry .pre .1 .1 .roomy)))
 
 slice-aggregate-answer-query-2 : tie.Need-slice-aggregate-answer-query-2
 slice-aggregate-answer-query-2 c =
-    let entry = c .before .before .before .before .before .before .before .before .before .before .before .before .before in
+    let entry = c .before .before .before .before .before .before .before .before .before .before .before .before .before .before .before .before .before in
     sym (length-take-le _ _ (omega (arith, entry .pre .1 .1 .counted, entry .pre .1 .1 .roomy)))
 
 slice-aggregate-answer-query-3 : tie.Need-slice-aggregate-answer-query-3
 slice-aggregate-answer-query-3 c =
-    let entry = c .before .before .before .before .before .before .before .before .before .before .before .before .before .before in
+    let entry = c .before .before .before .before .before .before .before .before .before .before .before .before .before .before .before .before .before .before in
     sym (length-take-le _ _ (omega (arith, entry .pre .1 .1 .counted, entry .pre .1 .1 .roomy)))
 
 slice-aggregate-answer-query-4 : tie.Need-slice-aggregate-answer-query-4
 slice-aggregate-answer-query-4 c =
-    let entry = c .before .before .before .before .before .before .before .before .before .before .before .before .before .before .before in
+    let entry = c .before .before .before .before .before .before .before .before .before .before .before .before .before .before .before .before .before .before .before in
     sym (length-take-le _ _ (omega (arith, entry .pre .1 .1 .counted, entry .pre .1 .1 .roomy)))
 
 slice-aggregate-answer-query-5 : tie.Need-slice-aggregate-answer-query-5
 slice-aggregate-answer-query-5 c =
-    let entry = c .before .before .before .before .before .before .before .before .before .before .before .before .before .before .before .before in
+    let entry = c .before .before .before .before .before .before .before .before .before .before .before .before .before .before .before .before .before .before .before .before in
     sym (length-take-le _ _ (omega (arith, entry .pre .1 .1 .counted, entry .pre .1 .1 .roomy)))
 
 slice-aggregate-answer-query-6 : tie.Need-slice-aggregate-answer-query-6
 slice-aggregate-answer-query-6 c =
-    let entry = c .before .before .before .before .before .before .before .before .before .before .before .before .before .before .before .before .before in
+    let entry = c .before .before .before .before .before .before .before .before .before .before .before .before .before .before .before .before .before .before .before .before .before in
     sym (length-take-le _ _ (omega (arith, entry .pre .1 .1 .counted, entry .pre .1 .1 .roomy)))
 
 answer-query-requires : tie.Need-answer-query-requires
 answer-query-requires c κs =
-    let entry = c .before .before .before .before .before .before .before .before .before .before .before .before .before .before .before .before .before .before in
+    let entry = c .before .before .before .before .before .before .before .before .before .before .before .before .before .before .before .before .before .before .before .before .before .before in
     known-by (entry .args .reader) _ (entry .pre .1 .1) (entry .pre .1 .0)
 
 next-line-requires : tie.Need-next-line-requires
@@ -92,7 +92,7 @@ same-length-3 c = search needs
 returns-3 : tie.Need-returns-3
 unfolding toldBy
 returns-3 c =
-    let entry = c .before .before .before .before .before .before .before .before .before .before .before .before .before .before .before .before .before .before .before .before .before .before in
+    let entry = c .before .before .before .before .before .before .before .before .before .before .before .before .before .before .before .before .before .before .before .before .before .before .before .before .before .before in
     let frame = c .before .before .before .before .before .before .before .before .before .before .before .before .before .before .before .frame in
     let one-too-many-here = c .before .before .before .before .before .before .before .before .before .before .before .before .before .one-too-many in
     let if1 = c .before .before .before .before .before .before .before .before .before .before .before .before .if1 in

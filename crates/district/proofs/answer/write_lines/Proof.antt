@@ -1,6 +1,6 @@
 -- `answer::write_lines` meets its contract: the verdict is the table's, and a query that is accepted is searched. Assumes nothing.
 use mathlib.Core.Path.{sym, _∙_}
-use Rattle.district.specs.QueryLaws.{refused-lines, verdict-parts, placed-as}
+use Rattle.district.specs.QueryLaws.{refused-lines, verdict-parts, query-by-parts, placed-as}
 use borrow.Author.Needs.{needs}
 use Rattle.district.proofs.answer.write_lines.Statement.{statement}
 use Rattle.district.proofs.answer.write_lines.Tie as tie
@@ -19,7 +19,7 @@ same-length c = search needs
 
 returns : tie.Need-returns
 returns c =
-    let entry = c .before .before .before .before .before .before .before .before .before .before .before .before .before in
+    let entry = c .before .before .before .before .before .before .before .before .before .before .before .before .before .before .before .before .before in
     let verdict-on = c .before .before .before .before .before .before .before .verdict-on in
     let verdict = c .before .before .before .before .before .verdict in
     let write-refusal = c .before .before .write-refusal in
@@ -30,10 +30,10 @@ enum-told c = search needs
 
 write-found-requires : tie.Need-write-found-requires
 write-found-requires c κs =
-    let entry = c .before .before .before .before .before .before .before .before .before in
+    let entry = c .before .before .before .before .before .before .before .before .before .before .before .before .before in
     let verdict-on = c .before .before .before .verdict-on in
     let enum-told = c .before .enum-told in
-    sym (verdict-on .ensures ∙ verdict-parts (entry .pre) _ _ _) ∙ enum-told .given .1
+    query-by-parts (entry .pre) _ _ _ (sym (verdict-on .ensures) ∙ enum-told .given .1)
 
 same-length-2 : tie.Need-same-length-2
 same-length-2 c = search needs

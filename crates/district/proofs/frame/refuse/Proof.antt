@@ -1,6 +1,6 @@
 -- `frame::refuse` meets its contract: the refusal's line is placed, and nothing changes but that the file has ended. Assumes
 -- nothing.
-use mathlib.Core.Path.{refl}
+use mathlib.Core.Path.{refl, sym}
 use borrow.Author.Needs.{needs}
 use Rattle.district.specs.File.{refused}
 use Rattle.district.specs.Reader.{toldBy, fileOf, ownVerdict}
@@ -22,6 +22,7 @@ returns c =
           record {
             file-is = refl;
             beyond = beyond-same _ l;
+            index-is = sym (k .indexed);
             room-is = c .before .before .write-refusal .ensures;
             kept =
                 record {
@@ -37,6 +38,7 @@ returns c =
                       };
                   roomy = k .roomy;
                   judged = k .judged;
+                  indexed = k .indexed;
                 };
           };
     }

@@ -1,0 +1,2 @@
+-- why the contract admits a single answer
+pub mod OneAnswer
