@@ -1,6 +1,7 @@
 #!/bin/sh
-# Tests the fast engine, then measures, or with the first word `caps` asks at several caps, or with `beside` measures two
-# programs; the other arguments go to `bench run`, `bench caps` or `bench beside`. Paths count from the repository root.
+# Tests the fast engine, then measures, or with the first word `caps` asks at several caps, with `beside` measures two programs,
+# with `files` writes the files that are timed; the other arguments go to `bench run` or to the verb. Paths count from the
+# repository root.
 set -eu
 cd "$(dirname "$0")/.."
 bench() {
@@ -8,7 +9,7 @@ bench() {
 }
 verb=run
 case "${1:-}" in
-caps | beside)
+caps | beside | files)
     verb=$1
     shift
     ;;

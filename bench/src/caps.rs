@@ -49,8 +49,7 @@ fn ask(routeline: &Path, road: &Road, potentials: &'static str, trips: Trips, qu
             }
         }
     }
-    let trips = if trips == Trips::Any { "any" } else { "across" };
-    Ok(Asked { nodes, potentials, trips, queries, tallies })
+    Ok(Asked { nodes, potentials, trips: trips.name(), queries, tallies })
 }
 
 /// The first line of each answer to these trips, each without a cap and then at each cap.
@@ -93,7 +92,7 @@ fn count(tally: &mut Tally, whole: &str, answer: &str) -> Result<(), String> {
 
 fn report(rows: &[Asked], queries: usize) -> String {
     let mut text = format!(
-        "## Answers at several caps\n\nThe districts and trips of the tables that follow these, {queries} trips a row, pattern 01, each asked without a cap \
+        "## Answers at several caps\n\nThe districts of the tables that follow these, {queries} trips a row of the same kinds, pattern 01, each asked without a cap \
          and at caps of a sixteenth, an eighth, a quarter and half of the nodes. The answers are `routeline`'s own, and every \
          line was compared with the fast engine's: no difference.\n\n\
          Answers by kind, in percent, rounded: decided (a route or no route, as without a cap) / provisional / undecided.\n\n"

@@ -39,22 +39,26 @@ pub fn processor_time(whose: Whose) -> f64 {
     seconds(usage.user) + seconds(usage.system)
 }
 
-/// Runs that are made at the least, and the seconds after which no more are.
-const RUNS: usize = 7;
+/// Rounds that are made at the least and at the most, and the seconds after which no more are.
+const ROUNDS: usize = 7;
+const MOST_ROUNDS: usize = 400;
 const ENOUGH: f64 = 3.0;
 
-/// The least processor time of several runs of a program: more of them if one run is short.
-pub fn of_program<E>(mut run: impl FnMut() -> Result<(), E>) -> Result<f64, E> {
-    let mut least = f64::MAX;
+/// The least processor time of each of several runs of programs. A round makes all of them, one after the other, so that what
+/// disturbs the machine disturbs them alike; there are more rounds if the runs are short.
+pub fn of_programs<const N: usize, E>(mut run: impl FnMut(usize) -> Result<(), E>) -> Result<[f64; N], E> {
+    let mut least = [f64::MAX; N];
     let mut spent = 0.0;
-    let mut runs = 0;
-    while runs < RUNS || (spent < ENOUGH && runs < 10 * RUNS) {
-        let before = processor_time(Whose::Programs);
-        run()?;
-        let time = processor_time(Whose::Programs) - before;
-        least = least.min(time);
-        spent += time;
-        runs += 1;
+    let mut rounds = 0;
+    while rounds < ROUNDS || (spent < ENOUGH && rounds < MOST_ROUNDS) {
+        for (which, least) in least.iter_mut().enumerate() {
+            let before = processor_time(Whose::Programs);
+            run(which)?;
+            let time = processor_time(Whose::Programs) - before;
+            *least = least.min(time);
+            spent += time;
+        }
+        rounds += 1;
     }
     Ok(least)
 }
@@ -63,7 +67,7 @@ pub fn of_program<E>(mut run: impl FnMut() -> Result<(), E>) -> Result<f64, E> {
 /// milliseconds; the least of several rounds.
 pub fn of_call(mut call: impl FnMut()) -> f64 {
     let mut least = f64::MAX;
-    for _ in 0..3 * RUNS {
+    for _ in 0..3 * ROUNDS {
         let before = processor_time(Whose::Own);
         let mut calls = 0;
         let mut time = 0.0;

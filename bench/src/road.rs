@@ -23,8 +23,17 @@ pub enum Trips {
     Across,
 }
 
+impl Trips {
+    pub fn name(self) -> &'static str {
+        match self {
+            Trips::Any => "any",
+            Trips::Across => "across",
+        }
+    }
+}
+
 impl Road {
-    /// A district with exactly `per_node` arcs for each node: 2, 4 or 8.
+    /// A district with exactly `per_node` arcs for each node: 2, 4 or 8, or none for a single node.
     pub fn new(nodes: usize, per_node: usize, seed: u64) -> Road {
         let mut random = Random::new(seed);
         let mut high = (nodes as f64).sqrt() as usize;

@@ -6,16 +6,17 @@ use mathlib.Core.List.{List, [], _++_, append-nil}
 use Prim.Native.Nat.{ℕ, suc, _+_, _-_, _≤_, _<_}
 use native.Mathlib.Omega.{arith}
 use native.Mathlib.Numerals.{add-one}
-use lib.ListN.{length, take, drop, getD, length-append, length-drop, drop-of-length-le}
-use lib.Seq.{drop-cons, length-take-le}
+use lib.ListN.{length, take, drop, getD, length-append, length-drop, take-append-drop, drop-of-length-le}
+use lib.Seq.{drop-cons, drop-drop, take-all, length-take-le}
 use Rattle.frames.specs.Room.{Laid, Placed}
 use Rattle.frames.specs.RoomLaws.{Underway, underway-start, underway-more, underway-end, length-rest, lent-room, placed-laid, placed-within}
 use Rattle.district.specs.declared.Reader.{Reader}
 use Rattle.district.specs.declared.Taken.{Taken}
 use Rattle.district.specs.File.{takeByte, endOfInput, displayAnswer}
-use Rattle.district.specs.Reader.{Lists, fileOf, Roomy, Kept, Stepped, startReader, mostBytes, refusalBytes}
+use Rattle.district.specs.Reader.{Lists, lists, fileOf, Roomy, Kept, Stepped, holdingMore, Held, startReader, mostBytes, refusalBytes}
 use Rattle.district.specs.ReaderLaws.{start-file, start-kept, end-of-ended, AsLong, as-long-same, as-long-then}
-use Rattle.district.specs.FileLaws.{restOf, rest-whole, rest-none, rest-byte, rest-ended, display-short}
+use Rattle.district.specs.HoldLaws.{held-few}
+use Rattle.district.specs.FileLaws.{restOf, rest-whole, rest-none, rest-byte, rest-fed, rest-ended, display-short}
 
 -- i bytes of the file are read, and `at` bytes of its answer stand at the front of the text
 pub record Gathering (file old : List ℕ) (lent : Lists) (r : Reader) (l : Lists) (text : List ℕ) (at i : ℕ) : Type 0 where
@@ -39,6 +40,12 @@ gather-start file text r l e h room =
       underway = rw (start-file true 1 l, rest-whole true 1 file) (underway-start (displayAnswer file) text (omega (arith, display-bytes file)));
     })
 
+-- the line alone has changed, and is as long as it was
+as-long-line : (l : Lists) (line : List ℕ) → length line ≡ length (l .line) → AsLong l (lists line (l .tails) (l .heads) (l .weights) (l .index) (l .forward) (l .backward))
+as-long-line l line e =
+    let same : AsLong l l = as-long-same l in
+    record { line = e; tails = same .tails; heads = same .heads; weights = same .weights; index = same .index; forward = same .forward; backward = same .backward }
+
 -- ---- a part of the answer
 -- its writer was lent the text from `at` on, which came home as `ys`; as it fits, it takes the answer as much further
 module _ (file old : List ℕ) (text : List ℕ) (at : ℕ) (part left ys : List ℕ) (n : ℕ) (u : Underway (displayAnswer file) old text at (part ++ left))
@@ -59,6 +66,25 @@ module _ (file old : List ℕ) (lent : Lists) (r : Reader) (l : Lists) (text : L
 
   pub text-length : (ys : List ℕ) → length ys ≡ length (take (length text - at) (drop at text)) → length (take at text ++ (ys ++ drop (length text - at) (drop at text))) ≡ length old
   text-length ys e = simp (length-append, length-drop) (omega (arith, e, length-rest text at, length-take-le at text (omega (arith, g .underway .fits)), g .underway .size))
+
+  -- bytes of a line are held, which print nothing
+  module _ (n : ℕ) (line : List ℕ) (h : Held r n (take (length file - i) (drop i file)) (l .line) line) where
+    pub file-held-fits : i + n ≤ length file
+    file-held-fits = omega (arith, held-few h, length-rest file i, g .within)
+
+    pub gather-held : length line ≡ length (l .line)
+        → Gathering file old lent (holdingMore r n) (lists line (l .tails) (l .heads) (l .weights) (l .index) (l .forward) (l .backward)) text at (i + n)
+    gather-held long =
+        let after : Lists = lists line (l .tails) (l .heads) (l .weights) (l .index) (l .forward) (l .backward) in
+        let all = h .law (l .tails) (l .heads) (l .weights) (l .index) (l .forward) (l .backward) (g .kept) in
+        let whole : take (length file - i) (drop i file) ≡ drop i file = take-all (length file - i) (drop i file) (omega (arith, length-drop i file)) in
+        let rest : restOf (fileOf r l) (take n (drop i file) ++ drop n (drop i file)) ≡ restOf (fileOf (holdingMore r n) after) (drop n (drop i file)) = rest-fed _ _ _ _ (rw whole at (all .file-is)) in
+        record {
+          within = file-held-fits;
+          kept = all .kept;
+          as-long = as-long-then (g .as-long) (as-long-line l line long);
+          underway = subst (λ (x : List ℕ). Underway (displayAnswer file) old text at x) (rw (take-append-drop n (drop i file), drop-drop n i file) at rest) (g .underway);
+        }
 
   -- the next byte
   module _ (more : i < length file) (t : Taken) (after : Lists) (ys : List ℕ) (s : Stepped (takeByte (fileOf r l) (getD file i 0)) t l after (take (length text - at) (drop at text)) ys) (long : AsLong l after) where

@@ -33,7 +33,8 @@ fn place(text: &[u8], room: &mut [u8]) -> usize
 }
 
 // The answer of a file with one query, gathered in a text that always suffices: each answer line starts where the line before
-// it ended. Bytes after a file refusal are not looked at.
+// it ended. The bytes of an input line are held at once, and then the one that ends it is taken. Bytes after a file refusal are
+// not looked at.
 fn gather(
     file: &[u8],
     line: &mut [u8],
@@ -55,6 +56,12 @@ fn gather(
     let mut at: usize = 0;
     let mut i: usize = 0;
     while i < file.len() && reader.going {
+        let held = district::hold(reader, &file[i..], line);
+        reader.held = reader.held + held;
+        i += held;
+        if i == file.len() {
+            continue;
+        }
         let taken = district::take_byte(
             reader,
             file[i],

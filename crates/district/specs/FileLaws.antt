@@ -58,6 +58,11 @@ pub rest-byte : (f : File) (b : ℕ) (bytes : List ℕ) → restOf f (b ∷ byte
 unfolding restOf feed
 rest-byte f b bytes = append-assoc (takeByte f b .printed) _ _
 
+-- bytes that print nothing
+pub rest-fed : (f g : File) (a b : List ℕ) → feed f a ≡ step g [] → restOf f (a ++ b) ≡ restOf g b
+unfolding restOf
+rest-fed f g a b e = rw (feed-append f a b, e)
+
 -- a file that a refusal has ended prints nothing more, whatever its bytes: they need not be looked at
 pub rest-ended : (f : File) (bytes : List ℕ) → f .going ≡ false → restOf f bytes ≡ []
 unfolding takeByte endOfInput

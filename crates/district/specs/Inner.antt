@@ -1,7 +1,7 @@
 -- What the inner functions of this crate ask and promise: steps that change no list or some of them, and what is known of a
 -- reader where each kind of frame is taken. Nothing outside the crate rests on it. Definitions only. Assumes nothing.
 use mathlib.Core.Path.{_≡_}
-use mathlib.Core.Bool.{Bool, false, cond, not, _||_}
+use mathlib.Core.Bool.{Bool, false, cond, not, _&&_, _||_}
 use mathlib.Core.List.{List}
 use Prim.Native.Nat.{ℕ, _+_, _≤_, _<_}
 use lib.Dec.{eqb, ltb}
@@ -15,6 +15,7 @@ use Rattle.index.specs.Index.{Index, shortIndex, wrongIndex}
 use Rattle.index.specs.Table.{buildVerdict}
 use Rattle.frames.specs.declared.Frame.{Frame}
 use Rattle.frames.specs.declared.Frame.the-variants.{Arc}
+use Rattle.frames.specs.AnswerLines.{lineFeed}
 use Rattle.district.specs.declared.Reader.{Reader}
 use Rattle.district.specs.declared.Taken.{Taken}
 use Rattle.district.specs.File.{File, FileStep, lastLine}
@@ -57,6 +58,11 @@ withVerdict r verdict =
 -- what a step that changes no list promises (`Stepped`), whatever the lists are
 pub record SteppedOver (s : File → FileStep) (r : Reader) (t : Taken) (room room-after : List ℕ) : Type 0 where
   pub law : (l : Lists) → Kept r l → Stepped (s (fileOf r l)) t l l room room-after
+
+-- the same of a step that changes the line only
+pub record SteppedLine (s : File → FileStep) (r : Reader) (t : Taken) (line line′ room room-after : List ℕ) : Type 0 where
+  pub law : (tails heads weights : List ℕ) (ix : Index) (h k : List ℤ) → Kept r (lists line tails heads weights ix h k)
+      → Stepped (s (fileOf r (lists line tails heads weights ix h k))) t (lists line tails heads weights ix h k) (lists line′ tails heads weights ix h k) room room-after
 
 -- the same of a step that changes the arc lists only
 pub record SteppedArcs (s : File → FileStep) (r : Reader) (t : Taken) (tails heads weights tails′ heads′ weights′ room room-after : List ℕ) : Type 0 where
@@ -133,6 +139,10 @@ pub record Known (own : Verdict) (g : Network) (ix : Index) (h k : List ℤ) : T
 -- a frame is not of kind 02
 pub record NoArc (g : Frame) : Type 0 where
   pub law : (t h w : ℕ) → g ≡ Arc t h w → ⊥
+
+-- a byte ends a line whose frame is taken: a line feed, in a file that goes on, after any line but 4,294,967,295
+unfoldable pub endsLine : Reader → ℕ → Bool
+endsLine r b = r .going && eqb b lineFeed && ltb (r .line) lastLine
 
 -- a frame is still owed, by the reader's counts
 unfoldable pub owesBy : Reader → Bool

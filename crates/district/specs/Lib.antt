@@ -11,6 +11,7 @@ pub mod Inner
 pub mod ReaderLaws
 pub mod IndexLaws
 pub mod TakenLaws
+pub mod HoldLaws
 pub mod QueryLaws
 pub mod CappedLaws
 pub mod StepCases

@@ -3,16 +3,17 @@
 use mathlib.Core.Path.{_≡_, sym, ap, _∙_}
 use mathlib.Core.Bool.{Bool, cond, _||_}
 use mathlib.Core.List.{List}
-use Prim.Native.Nat.{ℕ}
+use Prim.Native.Nat.{ℕ, _+_, _≤_}
 use lib.Dec.{eqb, ltb}
 use lib.ListN.{length, take, drop, take-append-drop}
 use Rattle.network.specs.declared.Verdict.the-variants.{Accepted}
 use Rattle.network.specs.Network.{network}
 use Rattle.network.specs.Refusal.{networkVerdict}
+use Rattle.frames.specs.Frame.{mostDigits}
 use Rattle.district.specs.declared.Reader.{Reader}
 use Rattle.district.specs.declared.Taken.{Taken}
-use Rattle.district.specs.File.{File, FileStep}
-use Rattle.district.specs.Reader.{Lists, toldBy, fileOf, Reached, Stepped, Ended, startReader, ownVerdict}
+use Rattle.district.specs.File.{File, FileStep, feed}
+use Rattle.district.specs.Reader.{Lists, lists, toldBy, fileOf, Roomy, Kept, Reached, Stepped, Held, Ended, startReader, ownVerdict}
 use Rattle.district.specs.ReaderLaws.{count-tails, count-forward, count-held}
 
 -- `start`
@@ -78,6 +79,39 @@ module _ (s : FileStep) (l : Lists) (room : List ℕ) (t u : Taken) (a b : Lists
         λ i. record { line = held i; tails = tails i; heads = heads i; weights = weights i; index = index i; forward = forward i; backward = backward i },
         p .room-is .room-is ∙ sym (q .room-is .room-is),
       )
+
+-- `hold`: a reader that a step has left is kept with any line that has room
+with-line : (r : Reader) (l : Lists) (line : List ℕ) → Kept r l → mostDigits ≤ length line → Kept r (lists line (l .tails) (l .heads) (l .weights) (l .index) (l .forward) (l .backward))
+unfolding toldBy
+with-line r l line k long =
+    let y : Roomy l = k .roomy in
+    record {
+      counted = k .counted;
+      roomy =
+          record {
+            for-line = long;
+            for-tails = y .for-tails;
+            for-heads = y .for-heads;
+            for-weights = y .for-weights;
+            for-index = y .for-index;
+            for-forward = y .for-forward;
+            for-backward = y .for-backward;
+          };
+      judged = k .judged;
+      indexed = k .indexed;
+    }
+
+pub hold-one-answer : (r : Reader) → Reached r → (bytes line after after′ : List ℕ) → mostDigits ≤ length line → (n n′ : ℕ) → Held r n bytes line after → Held r n′ bytes line after′ → (n ≡ n′) × (after ≡ after′)
+unfolding fileOf
+hold-one-answer r left bytes line after after′ long n n′ p q =
+    let l : Lists = left .over in
+    let kept = with-line r l line (left .kept) long in
+    let f : File = fileOf r (lists line (l .tails) (l .heads) (l .weights) (l .index) (l .forward) (l .backward)) in
+    let a = p .law _ _ _ _ _ _ kept in
+    let b = q .law _ _ _ _ _ _ kept in
+    let same : n ≡ n′ = p .count-is ∙ sym (q .count-is) in
+    let held : take (r .held + n) after ≡ take (r .held + n′) after′ = ap (λ (s : FileStep). s .file .held) (sym (a .file-is) ∙ (ap (λ m. feed f (take m bytes)) same ∙ b .file-is)) in
+    (same, same-list _ _ after after′ line (ap (λ m. r .held + m) same) held (a .beyond .line) (b .beyond .line))
 
 -- `end_of_input`
 pub end-of-input-one-answer : (r : Reader) → Reached r → (room after after′ : List ℕ) (n n′ : ℕ) → Ended r room after n → Ended r room after′ n′ → (n ≡ n′) × (after ≡ after′)

@@ -2,8 +2,8 @@
 -- says of the file, and the printed bytes placed in the room. Definitions only; their laws are in ReaderLaws. Assumes nothing.
 use mathlib.Core.Path.{_≡_}
 use mathlib.Core.Bool.{Bool, true, false, cond, _||_}
-use mathlib.Core.List.{List}
-use Prim.Native.Nat.{ℕ, _+_, _*_, _≤_, _<_}
+use mathlib.Core.List.{List, [], _∷_}
+use Prim.Native.Nat.{ℕ, zero, suc, _+_, _-_, _*_, _≤_, _<_}
 use lib.Dec.{eqb, ltb}
 use lib.IntN.{ℤ}
 use lib.ListN.{length, take, drop}
@@ -12,11 +12,12 @@ use Rattle.network.specs.declared.Verdict.the-variants.{Accepted, Refused}
 use Rattle.network.specs.Network.{Network, network, mostNodes, mostArcs}
 use Rattle.network.specs.Refusal.{networkVerdict}
 use Rattle.index.specs.Index.{Index, builtOn}
+use Rattle.frames.specs.AnswerLines.{lineFeed}
 use Rattle.frames.specs.Frame.{mostDigits}
 use Rattle.frames.specs.Room.{Placed}
 use Rattle.district.specs.declared.Reader.{Reader}
 use Rattle.district.specs.declared.Taken.{Taken}
-use Rattle.district.specs.File.{Told, File, FileStep, sizeOwed, potentialsOwed, endOfInput}
+use Rattle.district.specs.File.{Told, File, FileStep, step, sizeOwed, potentialsOwed, endOfInput, feed}
 
 -- the lists that a reader is lent and that are kept from byte to byte
 pub record Lists : Type 0 where
@@ -154,6 +155,45 @@ pub record Stepped (s : FileStep) (t : Taken) (l after : Lists) (room room-after
   pub index-is : after .index ≡ indexKept (s .file .told) (l .index)
   pub room-is : Placed (s .printed) room room-after (t .written)
   pub kept : Kept (t .reader) after
+
+-- how many bytes at the front of some find room in a line that can hold so many more: up to the first line feed
+unfoldable pub heldWithin : ℕ → List ℕ → ℕ
+heldWithin zero bytes = 0
+heldWithin (suc room) [] = 0
+heldWithin (suc room) (b ∷ bytes) = cond (eqb b lineFeed) 0 (suc (heldWithin room bytes))
+
+-- how many bytes at the front of some a reader holds: none where a refusal has ended the file
+unfoldable pub heldOf : Reader → List ℕ → ℕ
+heldOf r bytes = cond (r .going) (heldWithin (mostDigits - r .held) bytes) 0
+
+-- the reader with so many bytes more of its line
+abbrev pub holdingMore : Reader → ℕ → Reader
+holdingMore r n =
+    record {
+      line = r .line;
+      held = r .held + n;
+      single = r .single;
+      going = r .going;
+      nodes = r .nodes;
+      arcs = r .arcs;
+      «arcs_read» = r .«arcs_read»;
+      «nodes_read» = r .«nodes_read»;
+      verdict = r .verdict;
+      asked = r .asked;
+    }
+
+-- these bytes are held: the reader that counts so many more stands for the file after taking them one after the other, which
+-- prints nothing; no entry beyond is changed, and the next step may follow
+pub record HeldAll (r : Reader) (n : ℕ) (bytes : List ℕ) (l after : Lists) : Type 0 where
+  pub file-is : feed (fileOf r l) bytes ≡ step (fileOf (holdingMore r n) after) []
+  pub beyond : Beyond (holdingMore r n) l after
+  pub kept : Kept (holdingMore r n) after
+
+-- what holding bytes promises: how many of them are held, and that they are, with no list changed but the line
+pub record Held (r : Reader) (n : ℕ) (bytes line line′ : List ℕ) : Type 0 where
+  pub count-is : n ≡ heldOf r bytes
+  pub law : (tails heads weights : List ℕ) (ix : Index) (h k : List ℤ) → Kept r (lists line tails heads weights ix h k)
+      → HeldAll r n (take n bytes) (lists line tails heads weights ix h k) (lists line′ tails heads weights ix h k)
 
 -- what the end of input promises: the bytes that it prints are placed in the room
 pub record Ended (r : Reader) (room after : List ℕ) (written : ℕ) : Type 0 where

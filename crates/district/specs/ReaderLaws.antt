@@ -1,16 +1,18 @@
 -- Laws of readers and steps: how a reader begins, what a step that changes no list has to show, and what a reader's counts say
 -- of the file that it stands for. Assumes nothing.
 use mathlib.Core.Path.{_≡_, refl, sym, subst, _∙_}
-use mathlib.Core.Bool.{Bool, true, false}
+use mathlib.Core.Bool.{Bool, true, false, _&&_}
 use mathlib.Core.List.{List, []}
 use Prim.Native.Nat.{ℕ, zero, suc, _≤_, _<_}
 use native.Mathlib.Omega.{arith}
+use lib.Dec.{eqb, ltb}
 use lib.IntN.{ℤ}
 use lib.ListN.{length, take}
 use lib.Seq.{length-take-le}
-use borrow.Author.Tests.{eq-eqb, ne-eqb, lt-ltb, le-ltb}
+use borrow.Author.Tests.{eqb-true, ltb-true, eq-eqb, ne-eqb, lt-ltb, le-ltb}
 use Rattle.network.specs.declared.Cause.the-variants.{MisplacedLine}
 use Rattle.network.specs.declared.Verdict.the-variants.{Accepted}
+use Rattle.network.specs.CaseSplit.{by-lt, both-true, true≢false}
 use Rattle.network.specs.Refusal.{networkVerdict}
 use Rattle.index.specs.Index.{Index}
 use Rattle.frames.specs.declared.Frame.{Frame}
@@ -21,7 +23,7 @@ use Rattle.district.specs.declared.Reader.{Reader}
 use Rattle.district.specs.declared.Taken.{Taken}
 use Rattle.district.specs.File.{File, FileStep, step, beginning, lastLine, refused, takeSize, takeArcs, takePotentials, takeQuery, takeFrame, takeLine, brokenLine, holding, takeByte, owing, endOfInput}
 use Rattle.district.specs.Reader.{Lists, lists, toldBy, fileOf, Counted, RoomyIndex, Roomy, Kept, Beyond, Stepped, startReader, networkRead, ownVerdict, indexKept}
-use Rattle.district.specs.Inner.{SteppedOver, SteppedArcs, SteppedPotentials, NotLast, PotentialsOpen, AllRead, owesBy}
+use Rattle.district.specs.Inner.{SteppedOver, SteppedLine, SteppedArcs, SteppedPotentials, NotLast, PotentialsOpen, AllRead, endsLine, owesBy}
 
 -- ---- the beginning
 pub start-file : (single : Bool) (line : ℕ) (l : Lists) → fileOf (startReader single line) l ≡ beginning single line
@@ -77,6 +79,10 @@ stepped-as {s} {s′} {t} {l} {after} {room} {room′} e h = subst (λ (x : File
 pub over-as : {s s′ : File → FileStep} {r : Reader} {t : Taken} {room room′ : List ℕ} → ((l : Lists) → Kept r l → s (fileOf r l) ≡ s′ (fileOf r l))
     → SteppedOver s r t room room′ → SteppedOver s′ r t room room′
 over-as e h = record { law = λ l k. stepped-as (e l k) (h .law l k) }
+
+pub over-line : {s : File → FileStep} {r : Reader} {t : Taken} {room room′ : List ℕ} (line : List ℕ) → SteppedOver s r t room room′
+    → SteppedLine s r t line line room room′
+over-line line h = record { law = λ tails heads weights ix f b k. h .law (lists line tails heads weights ix f b) k }
 
 pub over-arcs : {s : File → FileStep} {r : Reader} {t : Taken} {room room′ : List ℕ} (tails heads weights : List ℕ) → SteppedOver s r t room room′
     → SteppedArcs s r t tails heads weights tails heads weights room room′
@@ -143,24 +149,36 @@ module _ (r : Reader) (l : Lists) (k : Kept r l) (g : Frame) where
   unfolding takeFrame fileOf toldBy
   where-none-owed some all each = rw (ne-eqb _ _ some, count-tails r l k, le-ltb _ _ all, count-forward r l k, le-ltb _ _ each)
 
+-- when a byte ends a line whose frame is taken
+pub record LineEnds (r : Reader) (b : ℕ) : Type 0 where
+  pub goes : r .going ≡ true
+  pub feed : b ≡ lineFeed
+  pub not-last : NotLast r
+
+pub line-ends : (r : Reader) (b : ℕ) → endsLine r b ≡ true → LineEnds r b
+unfolding endsLine
+line-ends r b ends =
+    both-true (r .going && eqb b lineFeed) (ltb (r .line) lastLine) ends
+    (λ a m. both-true (r .going) (eqb b lineFeed) a (λ g f. record { goes = g; feed = eqb-true b lineFeed f; not-last = ltb-true _ _ m }))
+
 module _ (r : Reader) (l : Lists) where
-  -- the last line, and any other
-  pub last-line : r .line ≡ lastLine → refused (fileOf r l) (MisplacedLine lastLine) ≡ takeLine (fileOf r l)
-  unfolding takeLine fileOf
-  last-line e = rw (eq-eqb _ _ e)
-
-  pub other-line : {g : Frame} → (r .line ≡ lastLine → ⊥) → g ≡ frameOf (take (r .held) (l .line)) → takeFrame (fileOf r l) g ≡ takeLine (fileOf r l)
-  unfolding takeLine fileOf
-  other-line differs e = rw (ne-eqb _ _ differs, e)
-
-  -- what a byte is: nothing once the file has ended, a line's end, one more of the line, or one too many
+  -- what a byte is: nothing once the file has ended, the end of a line, the end of the last line, one more of the line, or one
+  -- too many
   pub ended-byte : (b : ℕ) → r .going ≡ false → step (fileOf r l) [] ≡ takeByte (fileOf r l) b
   unfolding takeByte fileOf
   ended-byte b e = rw e
 
-  pub line-feed-byte : (b : ℕ) → r .going ≡ true → b ≡ lineFeed → takeLine (fileOf r l) ≡ takeByte (fileOf r l) b
-  unfolding takeByte fileOf
-  line-feed-byte b e h = rw (e, eq-eqb _ _ h)
+  pub line-byte : (b : ℕ) {g : Frame} → endsLine r b ≡ true → g ≡ frameOf (take (r .held) (l .line)) → takeFrame (fileOf r l) g ≡ takeByte (fileOf r l) b
+  unfolding takeByte takeLine fileOf
+  line-byte b ends e =
+      let m = line-ends r b ends in
+      rw (e, m .goes, eq-eqb _ _ (m .feed), ne-eqb (r .line) lastLine (λ h. omega (arith, m .not-last)))
+
+  pub last-line-byte : (b : ℕ) → r .going ≡ true → b ≡ lineFeed → endsLine r b ≡ false → r .line ≤ lastLine → refused (fileOf r l) (MisplacedLine lastLine) ≡ takeByte (fileOf r l) b
+  unfolding takeByte takeLine fileOf endsLine
+  last-line-byte b e h ends most =
+      let last : r .line ≡ lastLine = by-lt (r .line) lastLine (λ short. absurd (true≢false (rw (e, eq-eqb _ _ h, lt-ltb _ _ short)) ends)) (λ long. omega arith) in
+      rw (e, eq-eqb _ _ h, eq-eqb _ _ last)
 
   pub held-byte : (b : ℕ) → Kept r l → r .going ≡ true → (b ≡ lineFeed → ⊥) → r .held < mostDigits → step (holding (fileOf r l) b) [] ≡ takeByte (fileOf r l) b
   unfolding takeByte fileOf

@@ -19,8 +19,8 @@ use Rattle.frames.specs.Frame.{mostDigits}
 use Rattle.frames.specs.Room.{Placed}
 use Rattle.frames.specs.RoomLaws.{nothing-placed}
 use Rattle.district.specs.declared.Reader.{Reader}
-use Rattle.district.specs.File.{GivenArc, addedArcs, wrong, taken, takeSize, takeArcs, takePotentials, withQuery, step, holding}
-use Rattle.district.specs.Reader.{Lists, lists, toldBy, fileOf, Counted, RoomyIndex, Roomy, Kept, Stepped, ownVerdict, indexKept}
+use Rattle.district.specs.File.{File, GivenArc, addedArcs, wrong, taken, takeSize, takeArcs, takePotentials, withQuery, step, holding}
+use Rattle.district.specs.Reader.{Lists, lists, toldBy, fileOf, Counted, RoomyIndex, Roomy, Kept, Beyond, Stepped, ownVerdict, indexKept, holdingMore}
 use Rattle.district.specs.Inner.{SteppedOver, SteppedArcs, SteppedPotentials, PotentialsOpen, Read, Indexable, indexBy, nextReader, withVerdict}
 use Rattle.district.specs.ReaderLaws.{positive, without-size, without-potentials, with-all, beyond-same, count-tails, count-forward}
 use Rattle.district.specs.IndexLaws.{can-be-built, index-waits, index-stays, index-by}
@@ -349,61 +349,63 @@ query-taken r next l printed room after written e k p =
           };
     })
 
--- ---- a byte of a line
-abbrev pub with-held : Reader → ℕ → Reader
-with-held r n =
-    record {
-      line = r .line;
-      held = n;
-      single = r .single;
-      going = r .going;
-      nodes = r .nodes;
-      arcs = r .arcs;
-      «arcs_read» = r .«arcs_read»;
-      «nodes_read» = r .«nodes_read»;
-      verdict = r .verdict;
-      asked = r .asked;
-    }
+-- ---- bytes of a line
+-- the line is so many bytes longer
+abbrev pub holdingAll : File → List ℕ → File
+holdingAll f bytes = record { told = f .told; line = f .line; held = f .held ++ bytes; single = f .single; going = f .going }
+
+module _ (r : Reader) (n : ℕ) (bytes line line′ tails heads weights : List ℕ) (ix : Index) (f k : List ℤ) (kept : Kept r (lists line tails heads weights ix f k)) (short : r .held + n ≤ mostDigits)
+    (grown : Grown line line′ (r .held) n bytes) where
+  pub grown-file : fileOf (holdingMore r n) (lists line′ tails heads weights ix f k) ≡ holdingAll (fileOf r (lists line tails heads weights ix f k)) bytes
+  unfolding fileOf toldBy
+  grown-file = rw (grown .front)
+
+  pub grown-beyond : Beyond (holdingMore r n) (lists line tails heads weights ix f k) (lists line′ tails heads weights ix f k)
+  grown-beyond = record { line = grown .back; tails = refl; heads = refl; weights = refl; forward = refl; backward = refl }
+
+  pub grown-kept : Kept (holdingMore r n) (lists line′ tails heads weights ix f k)
+  unfolding toldBy ownVerdict
+  grown-kept =
+      let c : Counted r = kept .counted in
+      let y : Roomy (lists line tails heads weights ix f k) = kept .roomy in
+      record {
+        counted =
+            record {
+              arcs-within = omega arith;
+              few-arcs = omega arith;
+              nodes-within = omega arith;
+              few-nodes = omega arith;
+              size-first = c .size-first;
+              arcs-first = c .arcs-first;
+              held-within = short;
+            };
+        roomy =
+            record {
+              for-line = omega (arith, grown .size, y .for-line);
+              for-tails = y .for-tails;
+              for-heads = y .for-heads;
+              for-weights = y .for-weights;
+              for-index = y .for-index;
+              for-forward = y .for-forward;
+              for-backward = y .for-backward;
+            };
+        judged = kept .judged;
+        indexed = kept .indexed;
+      }
 
 pub byte-held : (r : Reader) (b : ℕ) (line line′ tails heads weights : List ℕ) (ix : Index) (f k : List ℤ) (room : List ℕ)
     → Kept r (lists line tails heads weights ix f k)
     → r .held < mostDigits
     → Grown line line′ (r .held) 1 (b ∷ [])
-    → Stepped (step (holding (fileOf r (lists line tails heads weights ix f k)) b) []) (record { reader = with-held r (r .held + 1); written = 0 }) (lists line tails heads weights ix f k) (lists line′ tails heads weights ix f k) room room
-unfolding fileOf toldBy ownVerdict
+    → Stepped (step (holding (fileOf r (lists line tails heads weights ix f k)) b) []) (record { reader = holdingMore r 1; written = 0 }) (lists line tails heads weights ix f k) (lists line′ tails heads weights ix f k) room room
+unfolding fileOf
 byte-held r b line line′ tails heads weights ix f k room kept short grown =
-    let c : Counted r = kept .counted in
-    let y : Roomy (lists line tails heads weights ix f k) = kept .roomy in
     record {
-      file-is = rw (grown .front);
-      beyond = record { line = grown .back; tails = refl; heads = refl; weights = refl; forward = refl; backward = refl };
+      file-is = grown-file r 1 (b ∷ []) line line′ tails heads weights ix f k kept (omega arith) grown;
+      beyond = grown-beyond r 1 (b ∷ []) line line′ tails heads weights ix f k kept (omega arith) grown;
       index-is = sym (kept .indexed);
       room-is = nothing-placed room;
-      kept =
-          record {
-            counted =
-                record {
-                  arcs-within = omega arith;
-                  few-arcs = omega arith;
-                  nodes-within = omega arith;
-                  few-nodes = omega arith;
-                  size-first = c .size-first;
-                  arcs-first = c .arcs-first;
-                  held-within = omega arith;
-                };
-            roomy =
-                record {
-                  for-line = omega (arith, grown .size, y .for-line);
-                  for-tails = y .for-tails;
-                  for-heads = y .for-heads;
-                  for-weights = y .for-weights;
-                  for-index = y .for-index;
-                  for-forward = y .for-forward;
-                  for-backward = y .for-backward;
-                };
-            judged = kept .judged;
-            indexed = kept .indexed;
-          };
+      kept = grown-kept r 1 (b ∷ []) line line′ tails heads weights ix f k kept (omega arith) grown;
     }
 
 -- ---- frames that are not taken where their kind is owed

@@ -9,7 +9,8 @@ ghost use Rattle.network.specs.Refusal.{firstRefusal, tripVerdict};
 ghost use Rattle.nba.specs.Result.{turnsGiven};
 ghost use Rattle.index.specs.Index.{index};
 ghost use Rattle.index.specs.Table.{indexedVerdict};
-ghost use Rattle.frames.specs.Frame.{patternOf};
+ghost use lib.ListN.{take};
+ghost use Rattle.frames.specs.Frame.{frameOf, patternOf};
 ghost use Rattle.frames.specs.Room.{Placed};
 ghost use Rattle.district.specs.File.{workRoom, queryLines, takeQuery};
 ghost use Rattle.district.specs.Reader.{lists, fileOf, Kept, Stepped};
@@ -141,7 +142,7 @@ fn write_lines(
     )
 }
 
-// The same for the pattern that a query's line spells.
+// The same for the pattern that a query's line spells; its frame is decoded already.
 fn answer_query(
     own: Verdict,
     nodes: u16,
@@ -157,14 +158,16 @@ fn answer_query(
     start: u16,
     end: u16,
     line: &[u8],
+    frame: Frame,
     turns: u16,
     room: &mut [u8],
 ) -> usize
     requires { ⌜ Known own (network nodes (now tails) (now heads) (now weights)) (index (now «out_arcs») (now «out_begins») (now «in_arcs») (now «in_begins»)) (now forward) (now backward) ⌝ }
+    requires { ⌜ frame ≡ frameOf (now line) ⌝ }
     ensures { λ r. ⌜ Placed (queryLines (Cap.AtMost turns) (query (network nodes (now (tails .entry)) (now (heads .entry)) (now (weights .entry))) (now (forward .entry)) (now (backward .entry)) start end (patternOf (now (line .entry))))) (now (room .entry)) (now (room .exit)) r ⌝ }
 {
     let mut entries = [0u8; frames::MOST_PATTERN];
-    let n = frames::pattern(line, &mut entries);
+    let n = frames::pattern_of(line, frame, &mut entries);
     write_lines(
         own,
         nodes,
@@ -225,6 +228,7 @@ pub fn take_query(
     requires { ⌜ NotLast reader ⌝ }
     requires { ⌜ AllRead reader ⌝ }
     requires { ⌜ Kept reader (lists (now line) (now tails) (now heads) (now weights) (index (now «out_arcs») (now «out_begins») (now «in_arcs») (now «in_begins»)) (now forward) (now backward)) ⌝ }
+    requires { ⌜ frame ≡ frameOf (take (reader .held) (now line)) ⌝ }
     ensures { λ r. ⌜ Stepped (takeQuery (fileOf reader (lists (now (line .entry)) (now (tails .entry)) (now (heads .entry)) (now (weights .entry)) (index (now («out_arcs» .entry)) (now («out_begins» .entry)) (now («in_arcs» .entry)) (now («in_begins» .entry))) (now (forward .entry)) (now (backward .entry)))) frame) r (lists (now (line .entry)) (now (tails .entry)) (now (heads .entry)) (now (weights .entry)) (index (now («out_arcs» .entry)) (now («out_begins» .entry)) (now («in_arcs» .entry)) (now («in_begins» .entry))) (now (forward .entry)) (now (backward .entry))) (lists (now (line .entry)) (now (tails .entry)) (now (heads .entry)) (now (weights .entry)) (index (now («out_arcs» .entry)) (now («out_begins» .entry)) (now («in_arcs» .entry)) (now («in_begins» .entry))) (now (forward .entry)) (now (backward .entry))) (now (room .entry)) (now (room .exit)) ⌝ }
 {
     let Frame::Query {
@@ -259,6 +263,7 @@ pub fn take_query(
         start,
         end,
         &line[..held],
+        frame,
         turns,
         room,
     );

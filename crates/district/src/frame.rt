@@ -7,13 +7,12 @@ ghost use lib.ListN.{length, set};
 ghost use Rattle.index.specs.Index.{index};
 ghost use Rattle.frames.specs.AnswerLines.{answerLines};
 ghost use Rattle.frames.specs.Room.{Placed};
-ghost use Rattle.district.specs.File.{refused, wrong, takeSize, takeArcs, takePotentials, takeFrame, takeLine, brokenLine};
-ghost use Rattle.district.specs.Reader.{lists, fileOf, Kept, Stepped, ownVerdict};
+ghost use Rattle.district.specs.File.{refused, wrong, takeSize, takeArcs, takePotentials, brokenLine};
+ghost use Rattle.district.specs.Reader.{ownVerdict};
 ghost use Rattle.district.specs.Inner.{nextReader, SteppedOver, SteppedArcs, SteppedPotentials, NotLast, ArcsOpen, PotentialsOpen, Read, withVerdict, Indexable, indexBy, NoArc};
 use crate::LAST_LINE;
 use crate::Reader;
 use crate::Taken;
-use crate::answer;
 use frames::Frame;
 use network::Answer;
 use network::Cause;
@@ -62,7 +61,7 @@ pub fn next_line(reader: Reader) -> Reader
 }
 
 // The 01: a bad node count is 1, a bad arc count is 2.
-fn take_size(reader: Reader, frame: Frame, room: &mut [u8]) -> Taken
+pub fn take_size(reader: Reader, frame: Frame, room: &mut [u8]) -> Taken
     requires { ⌜ NotLast reader ⌝ }
     requires { ⌜ reader .nodes ≡ 0 ⌝ }
     ensures { λ r. ⌜ SteppedOver (λ f. takeSize f frame) reader r (now (room .entry)) (now (room .exit)) ⌝ }
@@ -137,7 +136,7 @@ fn take_link(
 }
 
 // A 02 or a 05 where arcs are owed.
-fn take_arcs(
+pub fn take_arcs(
     reader: Reader,
     frame: Frame,
     tails: &mut [u16],
@@ -243,7 +242,7 @@ fn build_index(
 
 // A 03 where potentials are owed: those of the next node, and of no other. With the last of them the network is whole, and
 // judged, and its index is built.
-fn take_potentials(
+pub fn take_potentials(
     reader: Reader,
     frame: Frame,
     tails: &[u16],
@@ -287,105 +286,6 @@ fn take_potentials(
         reader: judged,
         written: 0,
     }
-}
-
-// A sound or unsound frame where it stands: the 01 first, then arcs, then potentials, then queries.
-fn take_frame(
-    reader: Reader,
-    frame: Frame,
-    line: &[u8],
-    tails: &mut [u16],
-    heads: &mut [u16],
-    weights: &mut [u32],
-    out_arcs: &mut [u16],
-    out_begins: &mut [u16],
-    in_arcs: &mut [u16],
-    in_begins: &mut [u16],
-    forward: &mut [i32],
-    backward: &mut [i32],
-    room: &mut [u8],
-) -> Taken
-    requires { ⌜ NotLast reader ⌝ }
-    requires { ⌜ Kept reader (lists (now line) (now tails) (now heads) (now weights) (index (now «out_arcs») (now «out_begins») (now «in_arcs») (now «in_begins»)) (now forward) (now backward)) ⌝ }
-    ensures { λ r. ⌜ Stepped (takeFrame (fileOf reader (lists (now (line .entry)) (now (tails .entry)) (now (heads .entry)) (now (weights .entry)) (index (now («out_arcs» .entry)) (now («out_begins» .entry)) (now («in_arcs» .entry)) (now («in_begins» .entry))) (now (forward .entry)) (now (backward .entry)))) frame) r (lists (now (line .entry)) (now (tails .entry)) (now (heads .entry)) (now (weights .entry)) (index (now («out_arcs» .entry)) (now («out_begins» .entry)) (now («in_arcs» .entry)) (now («in_begins» .entry))) (now (forward .entry)) (now (backward .entry))) (lists (now (line .entry)) (now (tails .exit)) (now (heads .exit)) (now (weights .exit)) (index (now («out_arcs» .exit)) (now («out_begins» .exit)) (now («in_arcs» .exit)) (now («in_begins» .exit))) (now (forward .exit)) (now (backward .exit))) (now (room .entry)) (now (room .exit)) ⌝ }
-{
-    if reader.nodes == 0 {
-        return take_size(reader, frame, room);
-    }
-    if reader.arcs_read < reader.arcs {
-        return take_arcs(reader, frame, tails, heads, weights, room);
-    }
-    if reader.nodes_read < reader.nodes as usize {
-        return take_potentials(
-            reader,
-            frame,
-            tails,
-            heads,
-            weights,
-            out_arcs,
-            out_begins,
-            in_arcs,
-            in_begins,
-            forward,
-            backward,
-            room,
-        );
-    }
-    answer::take_query(
-        reader,
-        frame,
-        line,
-        tails,
-        heads,
-        weights,
-        out_arcs,
-        out_begins,
-        in_arcs,
-        in_begins,
-        forward,
-        backward,
-        room,
-    )
-}
-
-// A whole line, taken without its line feed. Line 4,294,967,295 is 11, sound or not.
-pub fn take_line(
-    reader: Reader,
-    line: &[u8],
-    tails: &mut [u16],
-    heads: &mut [u16],
-    weights: &mut [u32],
-    out_arcs: &mut [u16],
-    out_begins: &mut [u16],
-    in_arcs: &mut [u16],
-    in_begins: &mut [u16],
-    forward: &mut [i32],
-    backward: &mut [i32],
-    room: &mut [u8],
-) -> Taken
-    requires { ⌜ Kept reader (lists (now line) (now tails) (now heads) (now weights) (index (now «out_arcs») (now «out_begins») (now «in_arcs») (now «in_begins»)) (now forward) (now backward)) ⌝ }
-    ensures { λ r. ⌜ Stepped (takeLine (fileOf reader (lists (now (line .entry)) (now (tails .entry)) (now (heads .entry)) (now (weights .entry)) (index (now («out_arcs» .entry)) (now («out_begins» .entry)) (now («in_arcs» .entry)) (now («in_begins» .entry))) (now (forward .entry)) (now (backward .entry))))) r (lists (now (line .entry)) (now (tails .entry)) (now (heads .entry)) (now (weights .entry)) (index (now («out_arcs» .entry)) (now («out_begins» .entry)) (now («in_arcs» .entry)) (now («in_begins» .entry))) (now (forward .entry)) (now (backward .entry))) (lists (now (line .entry)) (now (tails .exit)) (now (heads .exit)) (now (weights .exit)) (index (now («out_arcs» .exit)) (now («out_begins» .exit)) (now («in_arcs» .exit)) (now («in_begins» .exit))) (now (forward .exit)) (now (backward .exit))) (now (room .entry)) (now (room .exit)) ⌝ }
-{
-    if reader.line == LAST_LINE {
-        return refuse(reader, Cause::MisplacedLine(LAST_LINE), room);
-    }
-    let held = reader.held;
-    let frame = frames::decode(&line[..held]);
-    take_frame(
-        reader,
-        frame,
-        line,
-        tails,
-        heads,
-        weights,
-        out_arcs,
-        out_begins,
-        in_arcs,
-        in_begins,
-        forward,
-        backward,
-        room,
-    )
 }
 
 // A line that is too long, or that the end of input cut short: 10, but line 4,294,967,295 is 11.

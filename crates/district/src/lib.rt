@@ -2,10 +2,14 @@
 // that hold the line and the network are lent to each step and kept between them. A query is answered as soon as its line
 // ends. What a file is answered is defined in specs/File.antt; each step here does what that definition says.
 ghost use mathlib.Core.Path.{_≡_};
+ghost use mathlib.Core.Bool.{false};
+ghost use Prim.Native.Nat.{_≤_};
+ghost use lib.ListN.{length};
 ghost use Rattle.index.specs.Index.{index};
+ghost use Rattle.frames.specs.Frame.{mostDigits};
 ghost use Rattle.district.specs.File.{takeByte};
-ghost use Rattle.district.specs.Reader.{startReader, lists, fileOf, Kept, Stepped, Reached, Ended};
-ghost use Rattle.district.specs.Inner.{owesBy};
+ghost use Rattle.district.specs.Reader.{startReader, lists, fileOf, Kept, Stepped, Held, Reached, Ended};
+ghost use Rattle.district.specs.Inner.{SteppedLine, endsLine, owesBy};
 
 mod answer;
 mod frame;
@@ -64,8 +68,46 @@ pub fn start(single: bool, line: u32) -> Reader
     }
 }
 
-// The next byte of a file. A line feed ends the line, which is taken; what it prints is placed at the front of the room. A line
-// with more bytes than any input frame has digits is refused at once. Where a refusal has ended the file nothing happens.
+// Whether a byte ends a line whose frame is taken: a line feed, in a file that goes on, after any line but 4,294,967,295.
+fn ends_line(reader: Reader, byte: u8) -> bool
+    ensures { λ r. ⌜ r ≡ endsLine reader byte ⌝ }
+{
+    if reader.going {
+        if byte == LINE_FEED {
+            return reader.line < LAST_LINE;
+        }
+    }
+    false
+}
+
+// A byte that ends no such line: the line holds it, or is refused, being too long or line 4,294,967,295. Where a refusal has
+// ended the file nothing happens.
+fn hold_byte(reader: Reader, byte: u8, line: &mut [u8], room: &mut [u8]) -> Taken
+    requires { ⌜ (endsLine reader byte ≡ false) × (mostDigits ≤ length (now line)) ⌝ }
+    ensures { λ r. ⌜ SteppedLine (λ f. takeByte f byte) reader r (now (line .entry)) (now (line .exit)) (now (room .entry)) (now (room .exit)) ⌝ }
+{
+    if !reader.going {
+        return Taken { reader, written: 0 };
+    }
+    if byte == LINE_FEED {
+        return frame::refuse(reader, Cause::MisplacedLine(LAST_LINE), room);
+    }
+    let at = reader.held;
+    if at < frames::MOST_DIGITS {
+        line[at] = byte;
+        let mut next = reader;
+        next.held = at + 1;
+        return Taken {
+            reader: next,
+            written: 0,
+        };
+    }
+    frame::refuse_broken(reader, room)
+}
+
+// The next byte of a file. A line feed ends the line, whose frame is taken where it stands: the 01 first, then arcs, then
+// potentials, then queries; what it prints is placed at the front of the room. A line with more bytes than any input frame has
+// digits is refused at once. Where a refusal has ended the file nothing happens.
 pub fn take_byte(
     reader: Reader,
     byte: u8,
@@ -84,13 +126,21 @@ pub fn take_byte(
     requires { ⌜ Kept reader (lists (now line) (now tails) (now heads) (now weights) (index (now «out_arcs») (now «out_begins») (now «in_arcs») (now «in_begins»)) (now forward) (now backward)) ⌝ }
     ensures { λ r. ⌜ Stepped (takeByte (fileOf reader (lists (now (line .entry)) (now (tails .entry)) (now (heads .entry)) (now (weights .entry)) (index (now («out_arcs» .entry)) (now («out_begins» .entry)) (now («in_arcs» .entry)) (now («in_begins» .entry))) (now (forward .entry)) (now (backward .entry)))) byte) r (lists (now (line .entry)) (now (tails .entry)) (now (heads .entry)) (now (weights .entry)) (index (now («out_arcs» .entry)) (now («out_begins» .entry)) (now («in_arcs» .entry)) (now («in_begins» .entry))) (now (forward .entry)) (now (backward .entry))) (lists (now (line .exit)) (now (tails .exit)) (now (heads .exit)) (now (weights .exit)) (index (now («out_arcs» .exit)) (now («out_begins» .exit)) (now («in_arcs» .exit)) (now («in_begins» .exit))) (now (forward .exit)) (now (backward .exit))) (now (room .entry)) (now (room .exit)) ⌝ }
 {
-    if !reader.going {
-        return Taken { reader, written: 0 };
+    if !ends_line(reader, byte) {
+        return hold_byte(reader, byte, line, room);
     }
-    if byte == LINE_FEED {
-        return frame::take_line(
+    let held = reader.held;
+    let frame = frames::decode(&line[..held]);
+    if reader.nodes == 0 {
+        return frame::take_size(reader, frame, room);
+    }
+    if reader.arcs_read < reader.arcs {
+        return frame::take_arcs(reader, frame, tails, heads, weights, room);
+    }
+    if reader.nodes_read < reader.nodes as usize {
+        return frame::take_potentials(
             reader,
-            line,
+            frame,
             tails,
             heads,
             weights,
@@ -103,17 +153,47 @@ pub fn take_byte(
             room,
         );
     }
-    let at = reader.held;
-    if at < frames::MOST_DIGITS {
-        line[at] = byte;
-        let mut next = reader;
-        next.held = at + 1;
-        return Taken {
-            reader: next,
-            written: 0,
-        };
+    answer::take_query(
+        reader,
+        frame,
+        line,
+        tails,
+        heads,
+        weights,
+        out_arcs,
+        out_begins,
+        in_arcs,
+        in_begins,
+        forward,
+        backward,
+        room,
+    )
+}
+
+// Holds the bytes at the front of some that end no line and find room in it, as `take_byte` would, one after the other; how many
+// they are, which the reader then counts in `held` too. It stops at a line feed, and where the line is full.
+pub fn hold(reader: Reader, bytes: &[u8], line: &mut [u8]) -> usize
+    requires { ⌜ Reached reader ⌝ }
+    requires { ⌜ mostDigits ≤ length (now line) ⌝ }
+    ensures { λ r. ⌜ Held reader r (now (bytes .entry)) (now (line .entry)) (now (line .exit)) ⌝ }
+{
+    if !reader.going {
+        return 0;
     }
-    frame::refuse_broken(reader, room)
+    let at = reader.held;
+    let mut n: usize = 0;
+    while n < bytes.len() {
+        let byte = bytes[n];
+        if byte == LINE_FEED {
+            return n;
+        }
+        if at + n >= frames::MOST_DIGITS {
+            return n;
+        }
+        line[at + n] = byte;
+        n += 1;
+    }
+    n
 }
 
 // Whether a frame is still owed: the 01, arcs, potentials or a query.

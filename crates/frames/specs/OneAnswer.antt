@@ -12,10 +12,18 @@ use Rattle.frames.specs.declared.Frame.{Frame}
 pub decode-one-answer : (line : List ℕ) (f g : Frame) → f ≡ frameOf line → g ≡ frameOf line → f ≡ g
 decode-one-answer line f g p q = p ∙ sym q
 
+-- `pattern_of`
+pub pattern-of-one-answer :
+    (line entries after after′ : List ℕ) (count count′ : ℕ)
+    → Placed (patternOf line) entries after count
+    → Placed (patternOf line) entries after′ count′
+    → (count ≡ count′) × (after ≡ after′)
+pattern-of-one-answer line = placed-once (patternOf line)
+
 -- `pattern`
 pub pattern-one-answer :
     (line entries after after′ : List ℕ) (count count′ : ℕ)
     → Placed (patternOf line) entries after count
     → Placed (patternOf line) entries after′ count′
     → (count ≡ count′) × (after ≡ after′)
-pattern-one-answer line = placed-once (patternOf line)
+pattern-one-answer = pattern-of-one-answer

@@ -39,7 +39,7 @@ pub const MOST_PATTERN: usize = 255;
 pub const MOST_DIGITS: usize = CAPPED_DIGITS + MOST_PATTERN;
 
 // What an input line says: one case for each kind, 01, 02, 05 and 03, one for the queries 04 and 07, or no sound frame. A query
-// holds its cap, which a 04 has not, and the length of its pattern; `pattern` hands out the entries.
+// holds its cap, which a 04 has not, and the length of its pattern; `pattern_of` hands out the entries.
 pub enum Frame {
     Size {
         nodes: u16,
@@ -69,7 +69,8 @@ pub enum Frame {
     Unsound,
 }
 
-// The value of a byte. The table is laid out once for a line and lent, since each use of a constant lays it out anew.
+// The value of a byte. The table is laid out once for a line, and once more for the entries of a query, and lent, since each use of
+// a constant lays it out anew.
 fn value(table: &[u8; 256], byte: u8) -> u8
     requires { ⌜ now table ≡ valueTable ⌝ }
     ensures { λ r. ⌜ r ≡ valueOf byte ⌝ }
@@ -254,10 +255,11 @@ fn write_entries(table: &[u8; 256], line: &[u8], at: usize, entries: &mut [u8])
     }
 }
 
-// The pattern of a query line, handed to the front of a lent list, and how many entries it has. They are the line's last digits,
-// whether it has a cap or not. Where the line is no sound query, or the list is too short, the answer is 0 and the list stays as
-// it was.
-pub fn pattern(line: &[u8], entries: &mut [u8]) -> usize
+// The pattern of a line whose frame is known, handed to the front of a lent list, and how many entries it has. They are the
+// line's last digits, whether it has a cap or not. Where the frame is no query, or the list is too short, the answer is 0 and the
+// list stays as it was.
+pub fn pattern_of(line: &[u8], frame: Frame, entries: &mut [u8]) -> usize
+    requires { ⌜ frame ≡ frameOf (now line) ⌝ }
     ensures { λ r. ⌜ Placed (patternOf (now (line .entry))) (now (entries .entry)) (now (entries .exit)) r ⌝ }
 {
     let Frame::Query {
@@ -265,7 +267,7 @@ pub fn pattern(line: &[u8], entries: &mut [u8]) -> usize
         end: _,
         cap: _,
         entries: count,
-    } = decode(line)
+    } = frame
     else {
         return 0;
     };
@@ -276,4 +278,12 @@ pub fn pattern(line: &[u8], entries: &mut [u8]) -> usize
     let table = VALUES;
     write_entries(&table, line, line.len() - n, entries);
     n
+}
+
+// The same of any line.
+pub fn pattern(line: &[u8], entries: &mut [u8]) -> usize
+    ensures { λ r. ⌜ Placed (patternOf (now (line .entry))) (now (entries .entry)) (now (entries .exit)) r ⌝ }
+{
+    let frame = decode(line);
+    pattern_of(line, frame, entries)
 }

@@ -2,7 +2,7 @@
 -- the program holds a talk that can come to pass, from its beginning on. Assumes nothing.
 use mathlib.Core.Path.{_≡_, refl, sym, ap, _∙_}
 use mathlib.Core.Bool.{true, false, _&&_}
-use mathlib.Core.List.{List, [], _∷_}
+use mathlib.Core.List.{List, [], _∷_, _++_}
 use Prim.Native.Nat.{ℕ, zero, suc, _+_, _-_, _≤_, _<_, min}
 use native.Mathlib.Omega.{arith}
 use native.Mathlib.Numerals.{add-one}
@@ -10,7 +10,7 @@ use borrow.Author.Tests.{eq-eqb, ne-eqb, eqb-true, ltb-true, lt-ltb}
 use lib.Dec.{eqb, ltb}
 use lib.IntN.{ℤ, pos, negsuc}
 use lib.Signed.{ltZ}
-use lib.ListN.{length, take, drop, getD, length-append, length-drop}
+use lib.ListN.{length, take, drop, getD, length-append, length-drop, take-append-drop}
 use lib.Seq.{slice, slice-empty, slice-cons, length-slice, drop-drop, take-nil, take-at}
 use mir.Syntax.{w32, w64}
 use mir.Val.{SFits, ofZ}
@@ -20,9 +20,10 @@ use Rattle.frames.specs.Room.{laid, Laid, Placed}
 use Rattle.frames.specs.RoomLaws.{placed-laid}
 use Rattle.district.specs.declared.Reader.{Reader}
 use Rattle.district.specs.declared.Taken.{Taken}
-use Rattle.district.specs.File.{FileStep, takeByte, endOfInput}
-use Rattle.district.specs.Reader.{Lists, fileOf, Roomy, Stepped, Ended, mostBytes}
+use Rattle.district.specs.File.{FileStep, step, takeByte, endOfInput, feed}
+use Rattle.district.specs.Reader.{Lists, lists, fileOf, Roomy, Stepped, holdingMore, Held, Ended, mostBytes}
 use Rattle.district.specs.ReaderLaws.{start-file, start-kept}
+use Rattle.district.specs.HoldLaws.{held-few}
 use Rattle.district.specs.PrintLaws.{printed-fits, end-fits}
 use Rattle.routeline.specs.declared.Stage.the-variants.{AllHeard, CutShort}
 use Rattle.routeline.specs.declared.Ask.{Ask}
@@ -31,7 +32,7 @@ use Rattle.routeline.specs.declared.Did.{Did}
 use Rattle.routeline.specs.declared.Did.the-variants.{Came, Ended as EndedThere, Went, Interrupted, WouldWait, Failed}
 use Rattle.routeline.specs.declared.Speaker.{Speaker}
 use Rattle.routeline.specs.Talk.{Talk, talk, silence, asks, asksOn, Possible, can-come, can-end, can-go, can-pass, can-fail, lookOn, talkLooked, told, talkAfter, Seen, seen, seenAfter, Talked, begun, then}
-use Rattle.routeline.specs.TalkLaws.{never, empty, look-one, look-nothing, look-owing, look-ended, none-left-to-look-at}
+use Rattle.routeline.specs.TalkLaws.{never, empty, look-one, look-fed, look-nothing, look-owing, look-ended, none-left-to-look-at}
 use Rattle.routeline.specs.Speaker.{talkOf, OwedWithin, Sits, StandsFor, speakerAt, startSpeaker, eventOf, interruptedError, waitError, unmovedBy, answerOf, readingOf, writingOf, CameWithin, WentWithin, ReadDid, read-some, read-end, read-interrupted, read-later, read-failed, WriteDid, wrote-some, write-interrupted, write-later, write-failed, AsksAs, Answers, looksOn, TellsAs}
 
 -- ---- parts of lists
@@ -250,6 +251,41 @@ looks-on-more r from got done written on =
 looks-on-is : (r : Reader) (from got done written : ℕ) → from < got → done ≡ written → r .going ≡ true → looksOn r from got done written ≡ true
 unfolding looksOn
 looks-on-is r from got done written a p g = rw (lt-ltb _ _ a, eq-eqb _ _ p, g)
+
+-- bytes of a line are held, which are looked at and print nothing
+module _ (t : Talk) (s : Speaker) (l : Lists) (chunk room : List ℕ) (u : LookUnderway t s l chunk room) (on : looksOn (s .reader) (s .from) (s .got) (s .done) (s .written) ≡ true)
+    (n : ℕ) (line : List ℕ) (h : Held (s .reader) n (take (s .got - s .from) (drop (s .from) chunk)) (l .line) line) where
+  pub held-fit : s .from + n ≤ s .got
+  held-fit =
+      let m = looks-on-more _ _ _ _ _ on in
+      let few : n ≤ length (slice (s .from) (s .got) chunk) = rw (lent-part (s .from) (s .got) chunk (omega (arith, m .there))) at (held-few h) in
+      omega (arith, few, length-slice (s .from) (s .got) chunk (u .sits .heard-within), m .there)
+
+  -- where they are not all that there are, the next byte is looked at
+  pub held-on : (s .from + n ≡ s .got → ⊥) → looksOn (holdingMore (s .reader) n) (s .from + n) (s .got) (s .done) (s .written) ≡ true
+  held-on more = let m = looks-on-more _ _ _ _ _ on in looks-on-is _ _ _ _ _ (by-lt (s .from + n) (s .got) (λ x. x) (λ x. absurd (more (omega (arith, held-fit))))) (m .paid) (m .goes)
+
+  pub look-held : LookUnderway t (speakerAt (holdingMore (s .reader) n) (s .from + n) (s .got) (s .done) (s .written) (s .stage)) (lists line (l .tails) (l .heads) (l .weights) (l .index) (l .forward) (l .backward)) chunk room
+  unfolding talkOf fileOf
+  look-held =
+      let m = looks-on-more _ _ _ _ _ on in
+      let after : Lists = lists line (l .tails) (l .heads) (l .weights) (l .index) (l .forward) (l .backward) in
+      let all = h .law (l .tails) (l .heads) (l .weights) (l .index) (l .forward) (l .backward) (u .sits .kept) in
+      let bytes : List ℕ = slice (s .from) (s .got) chunk in
+      let owed : slice (s .done) (s .written) room ≡ [] = empty _ (length-slice (s .done) (s .written) room (u .sits .owed-there .owed-within) ∙ omega (arith, m .paid)) in
+      let fed : feed (fileOf (s .reader) l) (take n bytes) ≡ step (fileOf (holdingMore (s .reader) n) after) [] = rw (lent-part (s .from) (s .got) chunk (omega (arith, m .there))) at (all .file-is) in
+      let looked : lookOn (s .stage) (fileOf (s .reader) l) [] (take n bytes ++ drop n bytes) ≡ lookOn (s .stage) (fileOf (holdingMore (s .reader) n) after) [] (drop n bytes) = look-fed (s .stage) (fileOf (s .reader) l) (fileOf (holdingMore (s .reader) n) after) (take n bytes) (drop n bytes) fed (m .goes) in
+      record {
+        sits =
+            record {
+              kept = all .kept;
+              heard-first = held-fit;
+              heard-within = u .sits .heard-within;
+              owed-there = record { owed-first = u .sits .owed-there .owed-first; owed-within = u .sits .owed-there .owed-within };
+              for-answer = u .sits .for-answer;
+            };
+        leads = rw owed (sym (rw (take-append-drop n bytes, drop-drop n (s .from) (take (s .got) chunk)) at looked) ∙ (rw owed at (u .leads)));
+      }
 
 -- one byte more is looked at
 module _ (t : Talk) (s : Speaker) (l : Lists) (chunk room : List ℕ) (u : LookUnderway t s l chunk room) (on : looksOn (s .reader) (s .from) (s .got) (s .done) (s .written) ≡ true)

@@ -4,12 +4,12 @@
 use mathlib.Core.Path.{_≡_, refl, sym, ap, _∙_}
 use mathlib.Core.Bool.{Bool, true, false}
 use mathlib.Core.List.{List, [], _∷_, _++_, append-assoc, append-nil}
-use Prim.Native.Nat.{ℕ}
+use Prim.Native.Nat.{ℕ, _+_}
 use native.Mathlib.Omega.{arith}
 use borrow.Author.Tests.{eqb-true, eq-eqb, ne-eqb}
-use lib.ListN.{length, take, drop, take-append-drop}
+use lib.ListN.{length, take, drop, length-append, take-append-drop}
 use Rattle.network.specs.CaseSplit.{by-bool, by-eq, cases2, true≢false}
-use Rattle.district.specs.File.{File, step, takeByte, endOfInput, feed, answerFrom, fileAnswer}
+use Rattle.district.specs.File.{File, FileStep, step, takeByte, endOfInput, feed, answerFrom, fileAnswer}
 use Rattle.district.specs.FileLaws.{feed-append, restOf, rest-ended}
 use Rattle.routeline.specs.declared.Stage.{Stage}
 use Rattle.routeline.specs.declared.Stage.the-variants.{Listening, AllHeard, CutShort}
@@ -171,6 +171,28 @@ pub look-one : (stage : Stage) (f : File) (owed : List ℕ) (b : ℕ) (heard : L
 unfolding lookOn
 look-one stage f owed b heard none goes =
     cases2 (λ (t : Talk). t ≡ lookOn stage (takeByte f b .file) (takeByte f b .printed) heard) (isEmpty owed) (f .going) (λ _ _. refl) (λ some. absurd (true≢false goes (some (eq-eqb _ _ none))))
+
+-- a file that a refusal has ended stays as it is
+feed-ended : (f : File) (bytes : List ℕ) → f .going ≡ false → feed f bytes ≡ step f []
+unfolding feed takeByte
+feed-ended f [] ended = refl
+feed-ended f (b ∷ bytes) ended = let same : takeByte f b ≡ step f [] = rw ended in rw (same, feed-ended f bytes ended)
+
+fed-goes : (f : File) (bytes : List ℕ) → feed f bytes .file .going ≡ true → f .going ≡ true
+fed-goes f bytes goes =
+    by-bool (f .going) (λ e. e) (λ ended. absurd (true≢false goes (ap (λ (s : FileStep). s .file .going) (feed-ended f bytes ended) ∙ ended)))
+
+-- bytes that print nothing are looked at, and then those after them
+pub look-fed : (stage : Stage) (f g : File) (bytes heard : List ℕ) → feed f bytes ≡ step g [] → g .going ≡ true → lookOn stage f [] (bytes ++ heard) ≡ lookOn stage g [] heard
+unfolding feed
+look-fed stage f g [] heard e goes = ap (λ (s : FileStep). lookOn stage (s .file) [] heard) e
+look-fed stage f g (b ∷ bytes) heard e goes =
+    let first : FileStep = takeByte f b in
+    let rest : FileStep = feed (first .file) bytes in
+    let none : length (first .printed) + length (rest .printed) ≡ 0 = sym (length-append (first .printed) (rest .printed)) ∙ ap (λ (s : FileStep). length (s .printed)) e in
+    let leads : feed (first .file) bytes ≡ step g [] = λ i. step (e i .file) (empty (rest .printed) (omega arith) i) in
+    look-one stage f [] b (bytes ++ heard) refl (fed-goes f (b ∷ bytes) (ap (λ (s : FileStep). s .file .going) e ∙ goes))
+    ∙ (ap (λ (owed : List ℕ). lookOn stage (first .file) owed (bytes ++ heard)) (empty (first .printed) (omega arith)) ∙ look-fed stage (first .file) g bytes heard leads goes)
 
 -- nothing is looked at where nothing was heard, where something is owed, and where a refusal has ended the file
 module _ (stage : Stage) (f : File) (owed : List ℕ) where

@@ -227,8 +227,8 @@ fn looks_on(reader: Reader, from: usize, got: usize, done: usize, written: usize
     false
 }
 
-// Looks at the bytes that are read, one after the other, up to the one that prints something. Where something is owed, or a
-// refusal has ended the file, no byte is looked at.
+// Looks at the bytes that are read, one after the other, up to the one that prints something: those of a line at once, and then
+// the one that ends it. Where something is owed, or a refusal has ended the file, no byte is looked at.
 fn look(
     speaker: Speaker,
     chunk: &[u8],
@@ -253,6 +253,12 @@ fn look(
     let mut done = speaker.done;
     let mut written = speaker.written;
     while looks_on(reader, from, got, done, written) {
+        let held = district::hold(reader, &chunk[from..got], line);
+        reader.held = reader.held + held;
+        from += held;
+        if from == got {
+            continue;
+        }
         let step = district::take_byte(
             reader,
             chunk[from],

@@ -1,14 +1,15 @@
 -- A turn of one side, made on the side's own lists with its arcs turned its way, is the turn that `nba` defines. Proved once,
 -- over the side. And where no more turns are made, the lists stand for the state at the cap. Assumes nothing.
 use mathlib.Core.Path.{_≡_, refl, sym, ap, _∙_}
-use mathlib.Core.Bool.{true, false}
+use mathlib.Core.Bool.{Bool, true, false}
 use mathlib.Core.Logic.{_≢_}
 use mathlib.Core.List.{List, [], _∷_}
-use Prim.Native.Nat.{ℕ, zero, suc, _+_, _%_, _^_, _≤_, _<_}
+use Prim.Native.Nat.{ℕ, zero, suc, _+_, _*_, _-_, _%_, _^_, _≤_, _<_}
 use borrow.Author.Tests.{eq-eqb, ne-eqb}
 use lib.IntN.{ℤ, pos, _+ℤ_}
 use lib.Signed.{mag}
-use lib.ListN.{length, getD, length-replicate}
+use lib.ListN.{length, getD, take, replicate, length-replicate}
+use lib.Seq.{length-take-le}
 use native.Mathlib.Numerals.{add-one}
 use native.Mathlib.Omega.{arith}
 use Rattle.network.specs.CaseSplit.{cases, twice}
@@ -28,9 +29,13 @@ use Rattle.nba.specs.Why.MeasureLaws.{shiftable}
 use Rattle.nba.specs.Why.CodeLaws.{goes-on-by-mark, stays-ended-by-mark}
 use Rattle.nba.specs.Why.ByMarkLaws.{same-at}
 use Rattle.nba.specs.Why.EndLaws.{going-few}
+use Rattle.steps.specs.declared.Candidate.{Candidate}
 use Rattle.steps.specs.Steps.{meant}
+use Rattle.queue.specs.Queue.{QueueOf, BegunQueue, nextIn, firstLabels, Spacious}
+use Rattle.queue.specs.QueueLaws.{spacious, queue-begins}
+use Rattle.queue.specs.LeastLaws.{next-is-least}
 use Rattle.turn.specs.declared.Progress.{Progress}
-use Rattle.turn.specs.Turn.{Took, took, nodeTaken, bestOf, Ahead, Openable, Passed}
+use Rattle.turn.specs.Turn.{Took, took, nodeTaken, bestOf, Ahead, Openable, Matched, Queues}
 use Rattle.cap.specs.declared.Course.{Course}
 use Rattle.cap.specs.declared.Course.the-variants.{Turn, Ended, UsedUp}
 use Rattle.cap.specs.Stop.{courseOf}
@@ -40,7 +45,7 @@ use Rattle.index.specs.Index.{Index, wayOf, isBuilt}
 use Rattle.index.specs.IndexedLaws.{right-built}
 use Rattle.index.specs.SidewaysLaws.{sideways, arcs-of-sideways, built-sideways}
 use Rattle.tables.specs.Tables.{Long, FirstTables}
-use Rattle.run.specs.Run.{standingOf, KnowsNext, Floors, Searchable, swappedOf, turnOf, Foreseen, Taking, FirstProgress, TurnsMade, StoppedAt}
+use Rattle.run.specs.Run.{standingOf, KnowsNext, Floors, Searchable, swappedOf, turnOf, Foreseen, Taking, QueueRoom, Beginning, Begun, FirstProgress, TurnsMade, StoppedAt}
 
 look-sideways : (s : Side) (g : Network) (theirs states : List ℕ) (u : ℕ) (arcs : List ℕ) (r : Reach)
     → lookEachByMark start (sideways s g) theirs states u arcs r ≡ lookEachByMark s g theirs states u arcs r
@@ -103,27 +108,47 @@ pub record AfterTurn (q : Query) (s : Side) (before after : State) (r : Progress
   pub turned : after ≡ turnByMark q s before
   pub known : KnowsNext q s after r
 
-pub side-turn-is : (q : Query) (s : Side) (labels neighbours theirs beyond states labels′ neighbours′ states′ : List ℕ) (p r : Progress) (u : ℕ) (k : ℤ)
-    → length (q .network .heads) ≡ arcCount (q .network)
+-- the arcs turned the way of a side, with n nodes
+abbrev pub sidewaysOf : Side → ℕ → Network → Network
+sidewaysOf s n g = network n (sideways s g .tails) (sideways s g .heads) (g .weights)
+
+same-sideways : (s : Side) (g : Network) → sidewaysOf s (g .nodes) g ≡ sideways s g
+same-sideways start g = refl
+same-sideways end g = refl
+
+-- `before` is the progress as the side was handed it
+pub side-turn-is : (q : Query) (s : Side) (labels neighbours theirs beyond states labels′ neighbours′ states′ : List ℕ) (before p r : Progress) (u : ℕ) (k : ℤ)
+    → Sound q
+    → before ≡ p
+    → length labels ≡ q .network .nodes
     → length states′ ≡ q .network .nodes
     → candidate q s (standingOf s labels neighbours theirs beyond states p) ≡ node u k
-    → took labels′ neighbours′ states′ (bestOf r) ≡ nodeTaken (sideways s (q .network)) (potentials s q) (potentials (other s) q) theirs u (source (other s) q) (p .beyond) (openedBy s) (took labels neighbours states (bestOf p))
-    → Ahead labels′ (potentials s q) theirs (potentials (other s) q) states′ p r
+    → took labels′ neighbours′ states′ (bestOf r) ≡ nodeTaken (sidewaysOf s (length labels) (q .network)) (potentials s q) (potentials (other s) q) theirs u (source (other s) q) (before .beyond) (openedBy s) (took labels neighbours states (bestOf before))
+    → Ahead labels′ (potentials s q) theirs (potentials (other s) q) states′ before r
     → AfterTurn q s (standingOf s labels neighbours theirs beyond states p) (standingOf s labels′ neighbours′ theirs beyond states′ r) r
-side-turn-is q s labels neighbours theirs beyond states labels′ neighbours′ states′ p r u k e long c t a =
+side-turn-is q s labels neighbours theirs beyond states labels′ neighbours′ states′ before p r u k sound same labels-long long c t ahead =
     let st = standingOf s labels neighbours theirs beyond states p in
+    let a = rw same at ahead in
     let f : floorAfter (p .floor) (leastBelow labels′ states′ (potentials s q) (q .network .nodes)) ≡ r .floor = sym (a .floor ∙ ap (floorAfter (p .floor)) (a .mine ∙ ap (leastBelow labels′ states′ (potentials s q)) long)) in
     record {
       turned =
           sym
-          (turn-is-taken q s st u k e c
-          ∙ ap (afterTook q s st) (taken-here q labels neighbours theirs beyond states labels′ neighbours′ states′ p r u s ∙ sym t)
+          (turn-is-taken q s st u k (sound .sized .heads-long) c
+          ∙ ap (afterTook q s st) (taken-here q labels neighbours theirs beyond states labels′ neighbours′ states′ p r u s ∙ sym (rw (same, labels-long, same-sideways s (q .network)) at t))
           ∙ settled q labels neighbours theirs beyond states labels′ neighbours′ states′ p r u s f (sym (a .beyond)));
       known = record {
         mine = a .mine ∙ ap (leastBelow labels′ states′ (potentials s q)) long ∙ sym (own-candidate q labels′ neighbours′ theirs beyond states′ labels′ neighbours′ states′ r r u s);
         yours = a .yours ∙ ap (leastBelow theirs states′ (potentials (other s) q)) long ∙ sym (other-candidate q labels′ neighbours′ theirs beyond states′ labels′ neighbours′ states′ r r u s);
       };
     }
+
+-- ---- the potentials of a side: one for each node, of 32 bits
+potentials-long : {q : Query} → Sound q → (s : Side) → length (potentials s q) ≡ q .network .nodes
+potentials-long sound start = sound .sized .forward-long
+potentials-long sound end = sound .sized .backward-long
+
+potentials-small : {q : Query} → Sound q → (s : Side) (v : ℕ) → mag (potentialAt (potentials s q) v) < 2 ^ 31
+potentials-small sound s v = omega (arith, range-fine _ (sound .in-range s v))
 
 -- ---- what a turn asks of the lists, over the side
 module _ {q : Query} {ix : Index} (asked : Searchable q ix) {labels neighbours theirs beyond states : List ℕ} (long : Long (q .network .nodes) labels neighbours theirs beyond states) where
@@ -150,18 +175,16 @@ module _ {q : Query} {ix : Index} (asked : Searchable q ix) {labels neighbours t
     node-in = rw (long .labels-long) h;
   }
 
-  pub side-passed : (s : Side) → Passed (length states) labels (potentials s q) theirs (potentials (other s) q)
-  side-passed s = record {
+  pub side-matched : (s : Side) → Matched (length states) labels (potentials s q) theirs (potentials (other s) q)
+  side-matched s = record {
     few = rw (long .states-long) (sound .sized .few-nodes);
     labels-long = long .labels-long ∙ sym (long .states-long);
-    own-long = potentials-long s ∙ sym (long .states-long);
+    own-long = potentials-long sound s ∙ sym (long .states-long);
+    own-small = potentials-small sound s;
     theirs-long = long .theirs-long ∙ sym (long .states-long);
-    other-long = potentials-long (other s) ∙ sym (long .states-long);
+    other-long = potentials-long sound (other s) ∙ sym (long .states-long);
+    other-small = potentials-small sound (other s);
   }
-    where
-      potentials-long : (t : Side) → length (potentials t q) ≡ q .network .nodes
-      potentials-long start = sound .sized .forward-long
-      potentials-long end = sound .sized .backward-long
 
 -- ---- the node that a side takes
 least-node-is : {labels states : List ℕ} {p : List ℤ} {n u : ℕ} {k : ℤ} {c : Chosen} → Choice labels states p n c → c ≡ node u k → LeastAt labels states p n u k
@@ -203,10 +226,15 @@ long-swapped l = record {
   states-long = l .states-long;
 }
 
+-- the queues seen from the other side
+pub queues-swapped : {labels theirs states own-queue other-queue : List ℕ} {own other : List ℤ} → Queues labels own theirs other states own-queue other-queue
+    → Queues theirs other labels own states other-queue own-queue
+queues-swapped s = record { mine = s .yours; yours = s .mine }
+
 -- ---- floors are far within 64 bits
 module _ {q : Query} (sound : Sound q) where
   key-small : (s : Side) (l u : ℕ) → l < missing → mag (pos l +ℤ potentialAt (potentials s q) u) < 2 ^ 40
-  key-small s l u h = omega (arith, mag-add (2 ^ 32) (2 ^ 31) (pos l) (potentialAt (potentials s q) u) (omega arith) (omega (arith, range-fine _ (sound .in-range s u))))
+  key-small s l u h = omega (arith, mag-add (2 ^ 32) (2 ^ 31) (pos l) (potentialAt (potentials s q) u) (omega arith) (potentials-small sound s u))
 
   floor-after-small : (s : Side) (old : ℤ) (labels states : List ℕ) → mag old < 2 ^ 40
       → mag (floorAfter old (leastBelow labels states (potentials s q) (q .network .nodes))) < 2 ^ 40
@@ -235,24 +263,25 @@ module _ {q : Query} (sound : Sound q) where
 
   pub floors-small : (i : ℕ) → SmallFloors (afterTurnsByMark q i)
   unfolding afterTurnsByMark turnByMark atBeginning beginningHalf
-  floors-small zero = record { small = both-sides (λ t. mag (half t (atBeginning q) .floor) < 2 ^ 40) start (omega (arith, range-fine _ (sound .in-range start (q .start)))) (omega (arith, range-fine _ (sound .in-range end (q .end)))) }
+  floors-small zero = record { small = both-sides (λ t. mag (half t (atBeginning q) .floor) < 2 ^ 40) start (omega (arith, potentials-small sound start (q .start))) (omega (arith, potentials-small sound end (q .end))) }
   floors-small (suc i) = cases SmallFloors (ended q (afterTurnsByMark q i)) (λ h. floors-small i) (λ h. takes-small (sideOfTurn (q .pattern) i) (candidate q (sideOfTurn (q .pattern) i) (afterTurnsByMark q i)) (afterTurnsByMark q i) (floors-small i))
 
 -- ---- a search under way
 module _ {q : Query} (sound : Sound q) {i : ℕ} {st : State} {p : Progress} (way : TurnsMade q i st p) where
   -- the two floors of the progress are those of the state
-  pub floors-of : p .floor ≡ half start st .floor → p .beyond ≡ half end st .floor → Floors p
+  floors-of : p .floor ≡ half start st .floor → p .beyond ≡ half end st .floor → Floors p
   floors-of e f = record {
     floor = rw (e ∙ ap (λ s. half start s .floor) (way .here)) (floors-small sound i .small start);
     beyond = rw (f ∙ ap (λ s. half end s .floor) (way .here)) (floors-small sound i .small end);
   }
 
-module _ {q : Query} (sound : Sound q) {i : ℕ} {st : State} {p : Progress} (way : TurnsMade q i st p) (cap : ℕ) where
+module _ {q : Query} (sound : Sound q) {i : ℕ} {st : State} {p : Progress} (way : TurnsMade q i st p) (cap : ℕ)
+    {course : Course} (told : course ≡ courseOf (meant (p .own)) (meant (p .other)) i cap) where
   -- step 2, of the state
-  courses : {r : Course} → r ≡ courseOf (meant (p .own)) (meant (p .other)) i cap → courseOf (candidate q start st) (candidate q end st) i cap ≡ r
-  courses e = sym (e ∙ rw (way .foreseen .mine, way .foreseen .yours))
+  courses : {c : Course} → course ≡ c → courseOf (candidate q start st) (candidate q end st) i cap ≡ c
+  courses e = sym (told ∙ rw (way .foreseen .mine, way .foreseen .yours)) ∙ e
 
-  module _ {a b : ℕ} (c : Turn a b ≡ courseOf (meant (p .own)) (meant (p .other)) i cap) where
+  module _ {a b : ℕ} (c : course ≡ Turn a b) where
     turning : Turning (candidate q start st) (candidate q end st) i cap a b
     turning = turn-says (candidate q start st) (candidate q end st) i cap (courses c)
 
@@ -275,28 +304,26 @@ module _ {q : Query} (sound : Sound q) {i : ℕ} {st : State} {p : Progress} (wa
     turns-left = going-few sound i going
 
     -- and within the cap
-    pub within-cap : i < cap
+    within-cap : i < cap
     within-cap = turning .turns-left
 
     -- and the state after the next one is the next
-    pub underway-next : {after : State} {r : Progress} → after ≡ turnOf q i st → Foreseen q after r → TurnsMade q (i + 1) after r
+    underway-next : {after : State} {r : Progress} → after ≡ turnOf q i st → Foreseen q after r → TurnsMade q (i + 1) after r
     underway-next t f = record { here = t ∙ rw (way .here) (sym (rw (add-one i) (goes-on-by-mark q i going))); foreseen = f }
 
   -- a side has none: the search has ended, and this is its state at every later cap
-  ended-here : Ended ≡ courseOf (meant (p .own)) (meant (p .other)) i cap → ended q st ≡ true
+  ended-here : course ≡ Ended → ended q st ≡ true
   unfolding ended
   ended-here e = ended-says (candidate q start st) (candidate q end st) i cap (courses e)
 
-  stopped-ended : q .start ≢ q .end → i ≤ cap → Ended ≡ courseOf (meant (p .own)) (meant (p .other)) i cap
-      → (st ≡ stateAt q cap) × (true ≡ over q (stateAt q cap))
+  stopped-ended : q .start ≢ q .end → i ≤ cap → course ≡ Ended → (st ≡ stateAt q cap) × (true ≡ over q (stateAt q cap))
   stopped-ended d h e =
       let o = ended-here e in
       let s : st ≡ stateAt q cap = way .here ∙ sym (same-at sound d cap ∙ stays-ended-by-mark q i cap (ap (ended q) (sym (way .here)) ∙ o) h) in
       (s, sym (rw (sym s) (rw (ne-eqb (q .start) (q .end) d) o)))
 
   -- the turns are used up: this is the state at the cap, and the search has not ended
-  stopped-used-up : q .start ≢ q .end → i ≤ cap → UsedUp ≡ courseOf (meant (p .own)) (meant (p .other)) i cap
-      → (st ≡ stateAt q cap) × (false ≡ over q (stateAt q cap))
+  stopped-used-up : q .start ≢ q .end → i ≤ cap → course ≡ UsedUp → (st ≡ stateAt q cap) × (false ≡ over q (stateAt q cap))
   unfolding ended
   stopped-used-up d h e =
       let o = used-up-says (candidate q start st) (candidate q end st) i cap (courses e) in
@@ -305,7 +332,7 @@ module _ {q : Query} (sound : Sound q) {i : ℕ} {st : State} {p : Progress} (wa
       (s, sym (rw (sym s) (rw (ne-eqb (q .start) (q .end) d) (o .both))))
 
 -- lists that kept their lengths
-pub kept-long : {n : ℕ} {labels neighbours theirs beyond states labels′ neighbours′ theirs′ beyond′ states′ : List ℕ} → Long n labels neighbours theirs beyond states
+kept-long : {n : ℕ} {labels neighbours theirs beyond states labels′ neighbours′ theirs′ beyond′ states′ : List ℕ} → Long n labels neighbours theirs beyond states
     → length labels′ ≡ length labels → length neighbours′ ≡ length neighbours → length theirs′ ≡ length theirs → length beyond′ ≡ length beyond → length states′ ≡ length states
     → Long n labels′ neighbours′ theirs′ beyond′ states′
 kept-long l a b c d e = record {
@@ -316,26 +343,64 @@ kept-long l a b c d e = record {
   states-long = e ∙ l .states-long;
 }
 
+-- ---- a side at the beginning
+side-beginning : {q : Query} → Sound q → (s : Side) {list : List ℕ} → QueueRoom (q .network .nodes) list → Beginning (q .network .nodes) (potentials s q) (source s q) list
+side-beginning sound s room = record {
+  few = sound .sized .few-nodes;
+  potentials-long = potentials-long sound s;
+  potentials-small = potentials-small sound s;
+  source-in = sound .source-in s;
+  room = room;
+}
+
+-- both sides, with the nodes counted by the forward potentials
+pub sides-beginning : {q : Query} → Sound q → {sq eq : List ℕ} → QueueRoom (q .network .nodes) sq → QueueRoom (q .network .nodes) eq
+    → Beginning (length (q .forward)) (q .forward) (q .start) sq × Beginning (length (q .forward)) (q .backward) (q .end) eq
+sides-beginning sound a b = rw (sound .sized .forward-long) (side-beginning sound start a, side-beginning sound end b)
+
+module _ {n v : ℕ} {p : List ℤ} {before : List ℕ} (b : Beginning n p v before) where
+  pub room-spacious : Spacious before v
+  room-spacious = spacious n v (b .room .long) (b .source-in)
+
+  -- the queue has the source alone, and what it has as its least is what the side takes first
+  pub side-begun : {list : List ℕ} {z floor : ℤ} (first : Candidate) → z ≡ potentialAt p v
+      → BegunQueue v z before list
+      → floor ≡ potentialAt p v
+      → meant first ≡ nextIn list → Begun n p v list floor first
+  side-begun first e s f t =
+      let long = length-replicate n undecided in
+      let queue = queue-begins n v before (b .room .long) (b .source-in) (rw e at s) in
+      record {
+        queue-is = queue;
+        floor-is = f;
+        first-is = t ∙ next-is-least (firstLabels n v) (replicate n undecided) p (b .potentials-small) (rw long (b .few)) queue ∙ ap (leastBelow (firstLabels n v) (replicate n undecided) p) long;
+      }
+
 -- ---- from the beginning to the end
-module _ {q : Query} (sound : Sound q) {sl sn el en states : List ℕ} {p : Progress}
+module _ {q : Query} (sound : Sound q) {sl sn el en states sq eq : List ℕ} {p : Progress}
     (tables : FirstTables (q .network .nodes) (q .start) (q .end) sl sn el en states)
-    (first : FirstProgress (q .forward) (q .backward) (q .start) (q .end) sl el states p) where
+    (progress : FirstProgress (length (q .forward)) (q .forward) (q .backward) (q .start) (q .end) sq eq p) where
+  first : FirstProgress (q .network .nodes) (q .forward) (q .backward) (q .start) (q .end) sq eq p
+  first = rw (sound .sized .forward-long) at progress
+
   begun : standingOf start sl sn el en states p ≡ atBeginning q
   unfolding atBeginning beginningHalf
-  begun = rw (tables .start-labels-are, tables .start-neighbours-are, tables .end-labels-are, tables .end-neighbours-are, tables .states-are, first .no-length, first .no-meeting, first .first-floor, first .first-beyond)
+  begun = rw (tables .start-labels-are, tables .start-neighbours-are, tables .end-labels-are, tables .end-neighbours-are, tables .states-are, first .no-length, first .no-meeting, first .start-begun .floor-is, first .end-begun .floor-is)
 
   -- a search that has begun is under way, with no turn made
-  pub begun-underway : TurnsMade q 0 (standingOf start sl sn el en states p) p
+  begun-underway : TurnsMade q 0 (standingOf start sl sn el en states p) p
   unfolding afterTurnsByMark candidate
-  begun-underway =
-      let long : length states ≡ q .network .nodes = ap length (tables .states-are) ∙ length-replicate (q .network .nodes) undecided in
-      record {
-        here = begun;
-        foreseen = record {
-          mine = first .start-first ∙ ap (leastBelow sl states (q .forward)) long;
-          yours = first .end-first ∙ ap (leastBelow el states (q .backward)) long;
-        };
-      }
+  begun-underway = record {
+    here = begun;
+    foreseen = record {
+      mine = rw (tables .start-labels-are, tables .states-are) (first .start-begun .first-is);
+      yours = rw (tables .end-labels-are, tables .states-are) (first .end-begun .first-is);
+    };
+  }
+
+  -- and the queues are those of its tables
+  begun-queued : Queues sl (q .forward) el (q .backward) states sq eq
+  begun-queued = rw (tables .start-labels-are, tables .end-labels-are, tables .states-are) (record { mine = first .start-begun .queue-is; yours = first .end-begun .queue-is })
 
   -- start equal to end: it is over at once
   pub over-at-once : (cap : ℕ) {s : ℕ} {r : Progress} → s ≡ q .start → q .start ≡ q .end → r .length ≡ 0 → r .meeting ≡ s → r .floor ≡ p .floor → r .beyond ≡ p .beyond → r .own ≡ p .own → r .other ≡ p .other
@@ -351,36 +416,72 @@ module _ {q : Query} (sound : Sound q) {sl sn el en states : List ℕ} {p : Prog
       }
 
 -- ---- the loop of turns
--- before a turn: i turns were made, no more than the cap allows, and the lists stand for the state after them
-pub record Going (q : Query) (ix : Index) (cap i : ℕ) (sl sn el en states : List ℕ) (p : Progress) : Type 0 where
+-- before a turn: i turns were made, no more than the cap allows, the lists stand for the state after them, and each side has its
+-- queue
+pub record Going (q : Query) (ix : Index) (cap i : ℕ) (sl sn el en states sq eq : List ℕ) (p : Progress) : Type 0 where
   pub few : i ≤ cap
   pub asked : Searchable q ix
   pub long : Long (q .network .nodes) sl sn el en states
+  pub queued : Queues sl (q .forward) el (q .backward) states sq eq
   pub way : TurnsMade q i (standingOf start sl sn el en states p) p
 
-module _ {q : Query} {ix : Index} {cap i : ℕ} {sl sn el en states : List ℕ} {p : Progress} (g : Going q ix cap i sl sn el en states p) where
-  -- both sides take a node: after the turn one turn more was made
-  pub going-on : (q′ : Query) (sl′ sn′ el′ en′ states′ : List ℕ) {r : Progress} {a b : ℕ} → q ≡ q′ → Turn a b ≡ courseOf (meant (p .own)) (meant (p .other)) i cap
-      → length sl′ ≡ length sl → length sn′ ≡ length sn → length el′ ≡ length el → length en′ ≡ length en → length states′ ≡ length states
-      → standingOf start sl′ sn′ el′ en′ states′ r ≡ turnOf q i (standingOf start sl sn el en states p) → Foreseen q (standingOf start sl′ sn′ el′ en′ states′ r) r
-      → Going q′ ix cap (i + 1) sl′ sn′ el′ en′ states′ r
-  going-on q′ sl′ sn′ el′ en′ states′ e c l1 l2 l3 l4 l5 t f =
-      rw (sym e) (record {
-        few = omega (arith, within-cap (g .asked .sound) (g .way) cap c);
-        asked = g .asked;
-        long = kept-long (g .long) l1 l2 l3 l4 l5;
-        way = underway-next (g .asked .sound) (g .way) cap c t f;
+-- q′ is the query with its nodes counted anew, which are as many
+module _ {q : Query} (q′ : Query) (same : q ≡ q′) {ix : Index} {sl sn el en states sl′ sn′ el′ en′ states′ sq′ eq′ : List ℕ}
+    (l1 : length sl′ ≡ length sl) (l2 : length sn′ ≡ length sn) (l3 : length el′ ≡ length el) (l4 : length en′ ≡ length en) (l5 : length states′ ≡ length states) where
+  -- before the first turn
+  pub begun-going : (cap : ℕ) {p : Progress} → Searchable q ix → Long (q .network .nodes) sl sn el en states
+      → FirstTables (q .network .nodes) (q .start) (q .end) sl′ sn′ el′ en′ states′
+      → FirstProgress (length (q .forward)) (q .forward) (q .backward) (q .start) (q .end) sq′ eq′ p
+      → Going q′ ix cap 0 sl′ sn′ el′ en′ states′ sq′ eq′ p
+  begun-going cap asked long tables first =
+      rw (sym same) (record {
+        few = omega arith;
+        asked = asked;
+        long = kept-long long l1 l2 l3 l4 l5;
+        queued = begun-queued (asked .sound) tables first;
+        way = begun-underway (asked .sound) tables first;
       })
 
-  -- no more turns are made, and the search has stopped at the cap: it has ended, or the turns are used up
-  pub stops-ended : (q′ : Query) → q ≡ q′ → q′ .start ≢ q′ .end → Ended ≡ courseOf (meant (p .own)) (meant (p .other)) i cap
-      → StoppedAt q′ cap (standingOf start sl sn el en states p) (record { progress = p; over = true })
-  stops-ended q′ e d c =
-      rw (sym e) (let s = stopped-ended (g .asked .sound) (g .way) cap (rw (sym e) at d) (g .few) c in
+  -- both sides take a node: after the turn one turn more was made
+  pub going-on : {cap i : ℕ} {sq eq : List ℕ} {p : Progress} → Going q ix cap i sl sn el en states sq eq p
+      → {course : Course} → course ≡ courseOf (meant (p .own)) (meant (p .other)) i cap → {a b : ℕ} → course ≡ Turn a b
+      → {r : Progress} → standingOf start sl′ sn′ el′ en′ states′ r ≡ turnOf q i (standingOf start sl sn el en states p)
+      → Foreseen q (standingOf start sl′ sn′ el′ en′ states′ r) r
+      → Queues sl′ (q .forward) el′ (q .backward) states′ sq′ eq′
+      → Going q′ ix cap (i + 1) sl′ sn′ el′ en′ states′ sq′ eq′ r
+  going-on {cap} g told c t f queued =
+      rw (sym same) (record {
+        few = omega (arith, within-cap (g .asked .sound) (g .way) cap told c);
+        asked = g .asked;
+        long = kept-long (g .long) l1 l2 l3 l4 l5;
+        queued = queued;
+        way = underway-next (g .asked .sound) (g .way) cap told c t f;
+      })
+
+-- no more turns are made, and the search has stopped at the cap: it has ended, or the turns are used up
+module _ {q : Query} (q′ : Query) (same : q ≡ q′) {ix : Index} {cap i : ℕ} {sl sn el en states sq eq : List ℕ} {p : Progress}
+    (g : Going q ix cap i sl sn el en states sq eq p) (apart : q′ .start ≢ q′ .end) {course : Course} (told : course ≡ courseOf (meant (p .own)) (meant (p .other)) i cap) where
+  pub stops-ended : course ≡ Ended → StoppedAt q′ cap (standingOf start sl sn el en states p) (record { progress = p; over = true })
+  stops-ended c =
+      rw (sym same) (let s = stopped-ended (g .asked .sound) (g .way) cap told (rw (sym same) at apart) (g .few) c in
       record { here = s .0; foreseen = g .way .foreseen; whether-over = s .1; floors = floors-of (g .asked .sound) (g .way) refl refl })
 
-  pub stops-used-up : (q′ : Query) → q ≡ q′ → q′ .start ≢ q′ .end → UsedUp ≡ courseOf (meant (p .own)) (meant (p .other)) i cap
-      → StoppedAt q′ cap (standingOf start sl sn el en states p) (record { progress = p; over = false })
-  stops-used-up q′ e d c =
-      rw (sym e) (let s = stopped-used-up (g .asked .sound) (g .way) cap (rw (sym e) at d) (g .few) c in
+  pub stops-used-up : course ≡ UsedUp → {over : Bool} → over ≡ false → StoppedAt q′ cap (standingOf start sl sn el en states p) (record { progress = p; over = over })
+  stops-used-up c e =
+      rw (sym same, e) (let s = stopped-used-up (g .asked .sound) (g .way) cap told (rw (sym same) at apart) (g .few) c in
       record { here = s .0; foreseen = g .way .foreseen; whether-over = s .1; floors = floors-of (g .asked .sound) (g .way) refl refl })
+
+-- ---- room for a queue
+abbrev pub zeroes : ℕ → List ℕ
+zeroes long = replicate long 0
+
+-- the first entries of some zeroes are as many as are asked for
+pub zeroes-long : (k long : ℕ) → k ≤ long → k ≡ length (take k (zeroes long))
+zeroes-long k long h = sym (length-take-le k (zeroes long) (rw (length-replicate {A = ℕ} long 0) h))
+
+pub zeroes-room : (n long : ℕ) → 0 < n → 2 * n - 1 ≤ long → QueueRoom n (take (2 * n - 1) (zeroes long))
+zeroes-room n long h k = record { long = omega (arith, zeroes-long (2 * n - 1) long k) }
+
+-- a queue of n nodes is as long as any list with room for one
+pub queue-kept : {n : ℕ} {labels states list lent : List ℕ} {p : List ℤ} → QueueOf labels states p list → length states ≡ n → QueueRoom n lent → length list ≡ length lent
+queue-kept q e room = omega (arith, q .tournament .long, q .long, room .long)

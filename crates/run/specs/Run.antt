@@ -3,20 +3,22 @@
 use mathlib.Core.Path.{_≡_}
 use mathlib.Core.Bool.{false}
 use mathlib.Core.List.{List}
-use Prim.Native.Nat.{ℕ, _<_, _≤_, _^_}
+use Prim.Native.Nat.{ℕ, _+_, _<_, _≤_, _^_}
 use lib.IntN.{ℤ}
-use lib.ListN.{length}
+use lib.ListN.{length, replicate}
 use lib.Signed.{mag}
 use Rattle.network.specs.Given.{Sound}
 use Rattle.network.specs.Network.{Side, start, end, other, mostNodes}
 use Rattle.network.specs.Potential.{potentialAt}
 use Rattle.network.specs.Query.{Query, sideOfTurn}
-use Rattle.nba.specs.State.{missing, noNode, State, state}
+use Rattle.nba.specs.State.{missing, noNode, undecided, State, state}
 use Rattle.nba.specs.Search.{node, leastBelow, candidate, stateAt}
 use Rattle.nba.specs.Result.{over}
 use Rattle.nba.specs.Why.ByMark.{turnByMark, afterTurnsByMark}
 use Rattle.index.specs.Index.{Index, wrongIndex}
+use Rattle.steps.specs.declared.Candidate.{Candidate}
 use Rattle.steps.specs.Steps.{meant}
+use Rattle.queue.specs.Queue.{QueueOf, firstLabels}
 use Rattle.turn.specs.declared.Progress.{Progress}
 use Rattle.run.specs.declared.Stop.{Stop}
 
@@ -65,23 +67,31 @@ pub record Taking (q : Query) (st : State) (a b : ℕ) (p : Progress) : Type 0 w
   pub end-takes : candidate q end st ≡ node b end-key
   pub floors : Floors p
 
--- what the beginning of a search asks: a potential for each node, and start and end among the nodes
-pub record Beginning (n : ℕ) (forward backward : List ℤ) (s e : ℕ) : Type 0 where
-  pub few : n ≤ mostNodes
-  pub forward-long : length forward ≡ n
-  pub backward-long : length backward ≡ n
-  pub start-in : s < n
-  pub end-in : e < n
+-- the list has as many entries as a queue of n nodes
+pub record QueueRoom (n : ℕ) (list : List ℕ) : Type 0 where
+  pub long : length list + 1 ≡ n + n
 
--- the progress at the beginning of a search: there is no best length, each floor is the source's potential, and what each side
--- takes first is known
-pub record FirstProgress (forward backward : List ℤ) (s e : ℕ) (start-labels end-labels states : List ℕ) (p : Progress) : Type 0 where
+-- what the beginning of a side asks: a potential of 32 bits for each of n nodes, its source v among them, and a list for its queue
+pub record Beginning (n : ℕ) (p : List ℤ) (v : ℕ) (list : List ℕ) : Type 0 where
+  pub few : n ≤ mostNodes
+  pub potentials-long : length p ≡ n
+  pub potentials-small : (u : ℕ) → mag (potentialAt p u) < 2 ^ 31
+  pub source-in : v < n
+  pub room : QueueRoom n list
+
+-- a side at the beginning of a search over n nodes: the list is its queue, its floor is its source's potential, and what it takes
+-- first is known
+pub record Begun (n : ℕ) (p : List ℤ) (v : ℕ) (list : List ℕ) (floor : ℤ) (first : Candidate) : Type 0 where
+  pub queue-is : QueueOf (firstLabels n v) (replicate n undecided) p list
+  pub floor-is : floor ≡ potentialAt p v
+  pub first-is : meant first ≡ leastBelow (firstLabels n v) (replicate n undecided) p n
+
+-- both sides at the beginning, when there is no best length
+pub record FirstProgress (n : ℕ) (forward backward : List ℤ) (s e : ℕ) (start-queue end-queue : List ℕ) (p : Progress) : Type 0 where
   pub no-length : p .length ≡ missing
   pub no-meeting : p .meeting ≡ noNode
-  pub first-floor : p .floor ≡ potentialAt forward s
-  pub first-beyond : p .beyond ≡ potentialAt backward e
-  pub start-first : meant (p .own) ≡ leastBelow start-labels states forward (length states)
-  pub end-first : meant (p .other) ≡ leastBelow end-labels states backward (length states)
+  pub start-begun : Begun n forward s start-queue (p .floor) (p .own)
+  pub end-begun : Begun n backward e end-queue (p .beyond) (p .other)
 
 -- a search is under way: it is in its state after i turns, and the progress knows what is next
 pub record TurnsMade (q : Query) (i : ℕ) (st : State) (p : Progress) : Type 0 where

@@ -1,17 +1,23 @@
 // The turns of a search (docs/RULES.md, "The search, turn by turn"), one after the other, from the beginning to the end or to the
 // last turn of a cap, on lists with exactly one entry a node. The pattern says whose turn it is; a turn is made by
-// `turn::side_turn` on the lists of that side, with its own way of the index.
+// `turn::side_turn` on the lists of that side, with its own way of the index. The two queues of waiting nodes are lists of the
+// search itself.
 ghost use mathlib.Core.Path.{_≡_};
-ghost use Prim.Native.Nat.{_<_};
 ghost use lib.ListN.{length};
 ghost use Rattle.network.specs.Network.{network};
 ghost use Rattle.network.specs.Query.{query};
 ghost use Rattle.index.specs.Index.{index};
-ghost use Rattle.turn.specs.Turn.{Passed};
-ghost use Rattle.tables.specs.Tables.{FirstTables, Long};
-ghost use Rattle.run.specs.Run.{Beginning, FirstProgress, Foreseen, Searchable, StoppedAt, Taking, standing, swappedOf, turnOf};
+ghost use Rattle.turn.specs.Turn.{Queues};
+ghost use Rattle.tables.specs.Tables.{Long};
+ghost use Rattle.run.specs.Run.{Beginning, FirstProgress, Foreseen, QueueRoom, Searchable, StoppedAt, Taking, standing, swappedOf, turnOf};
 use cap::Course;
 use turn::Progress;
+
+// The entries that a queue of 128 nodes has: a district of no more nodes is small.
+const FEW_ENTRIES: usize = 2 * 128 - 1;
+
+// The entries that a queue of the most nodes has.
+const MOST_ENTRIES: usize = 2 * network::MOST_NODES as usize - 1;
 
 // Where a search stopped, and whether it is over: at its end, or at a cap before it.
 pub struct Stop {
@@ -55,6 +61,8 @@ fn next_turn(
     end_labels: &mut [u32],
     end_neighbours: &mut [u16],
     states: &mut [u8],
+    start_queue: &mut [u64],
+    end_queue: &mut [u64],
     turns: usize,
     a: u16,
     b: u16,
@@ -62,9 +70,11 @@ fn next_turn(
 ) -> Progress
     requires { ⌜ Searchable (query (network (length (now states)) (now tails) (now heads) (now weights)) (now forward) (now backward) start end (now pattern)) (index (now «out_arcs») (now «out_begins») (now «in_arcs») (now «in_begins»)) ⌝ }
     requires { ⌜ Long (length (now states)) (now «start_labels») (now «start_neighbours») (now «end_labels») (now «end_neighbours») (now states) ⌝ }
+    requires { ⌜ Queues (now «start_labels») (now forward) (now «end_labels») (now backward) (now states) (now «start_queue») (now «end_queue») ⌝ }
     requires { ⌜ Taking (query (network (length (now states)) (now tails) (now heads) (now weights)) (now forward) (now backward) start end (now pattern)) (standing (now «start_labels») (now «start_neighbours») (now «end_labels») (now «end_neighbours») (now states) p) a b p ⌝ }
     ensures turned { λ r. ⌜ standing (now («start_labels» .exit)) (now («start_neighbours» .exit)) (now («end_labels» .exit)) (now («end_neighbours» .exit)) (now (states .exit)) r ≡ turnOf (query (network (length (now (states .entry))) (now (tails .entry)) (now (heads .entry)) (now (weights .entry))) (now (forward .entry)) (now (backward .entry)) start end (now (pattern .entry))) turns (standing (now («start_labels» .entry)) (now («start_neighbours» .entry)) (now («end_labels» .entry)) (now («end_neighbours» .entry)) (now (states .entry)) p) ⌝ }
     ensures known { λ r. ⌜ Foreseen (query (network (length (now (states .entry))) (now (tails .entry)) (now (heads .entry)) (now (weights .entry))) (now (forward .entry)) (now (backward .entry)) start end (now (pattern .entry))) (standing (now («start_labels» .exit)) (now («start_neighbours» .exit)) (now («end_labels» .exit)) (now («end_neighbours» .exit)) (now (states .exit)) r) r ⌝ }
+    ensures queued { λ _. ⌜ Queues (now («start_labels» .exit)) (now (forward .entry)) (now («end_labels» .exit)) (now (backward .entry)) (now (states .exit)) (now («start_queue» .exit)) (now («end_queue» .exit)) ⌝ }
 {
     let at = turns % pattern.len();
     if pattern[at] == 0 {
@@ -80,6 +90,8 @@ fn next_turn(
             start_neighbours,
             end_labels,
             states,
+            start_queue,
+            end_queue,
             a,
             end,
             tables::OPENED_BY_START,
@@ -99,6 +111,8 @@ fn next_turn(
         end_neighbours,
         start_labels,
         states,
+        end_queue,
+        start_queue,
         b,
         start,
         tables::OPENED_BY_END,
@@ -107,74 +121,40 @@ fn next_turn(
     swapped(after)
 }
 
-// The progress at the beginning of a search: no best length, the two floors, and what each side takes first.
-fn first_progress(
+// Step 1, but for the tables: each side has its source in its queue, there is no best length, each floor is the source's potential,
+// and the queues know what each side takes first.
+fn begin_queues(
     forward: &[i32],
     backward: &[i32],
     start: u16,
     end: u16,
-    start_labels: &[u32],
-    end_labels: &[u32],
-    states: &[u8],
+    start_queue: &mut [u64],
+    end_queue: &mut [u64],
 ) -> Progress
-    requires { ⌜ Passed (length (now states)) (now «start_labels») (now forward) (now «end_labels») (now backward) ⌝ }
-    requires { ⌜ (start < length (now states)) × (end < length (now states)) ⌝ }
-    ensures { λ r. ⌜ FirstProgress (now (forward .entry)) (now (backward .entry)) start end (now («start_labels» .entry)) (now («end_labels» .entry)) (now (states .entry)) r ⌝ }
+    requires { ⌜ Beginning (length (now forward)) (now forward) start (now «start_queue») ⌝ }
+    requires { ⌜ Beginning (length (now forward)) (now backward) end (now «end_queue») ⌝ }
+    ensures { λ r. ⌜ FirstProgress (length (now (forward .entry))) (now (forward .entry)) (now (backward .entry)) start end (now («start_queue» .exit)) (now («end_queue» .exit)) r ⌝ }
 {
-    let next = turn::next_candidates(states, start_labels, forward, end_labels, backward);
-    let own = next.own;
-    let other = next.other;
+    let first = forward[start as usize];
+    let beyond = backward[end as usize];
+    queue::begin_queue(start_queue, start, first);
+    queue::begin_queue(end_queue, end, beyond);
+    let own = queue::next_node(start_queue);
+    let other = queue::next_node(end_queue);
     Progress {
         length: steps::MISSING,
         meeting: tables::NO_NODE,
-        floor: forward[start as usize] as i64,
-        beyond: backward[end as usize] as i64,
+        floor: first as i64,
+        beyond: beyond as i64,
         own,
         other,
     }
 }
 
-// Step 1: the tables at the beginning of a search, and the progress with them.
-fn begin(
-    forward: &[i32],
-    backward: &[i32],
-    start: u16,
-    end: u16,
-    start_labels: &mut [u32],
-    start_neighbours: &mut [u16],
-    end_labels: &mut [u32],
-    end_neighbours: &mut [u16],
-    states: &mut [u8],
-) -> Progress
-    requires { ⌜ Long (length (now states)) (now «start_labels») (now «start_neighbours») (now «end_labels») (now «end_neighbours») (now states) ⌝ }
-    requires { ⌜ Beginning (length (now states)) (now forward) (now backward) start end ⌝ }
-    ensures { λ _. ⌜ FirstTables (length (now (states .entry))) start end (now («start_labels» .exit)) (now («start_neighbours» .exit)) (now («end_labels» .exit)) (now («end_neighbours» .exit)) (now (states .exit)) ⌝ }
-    ensures { λ r. ⌜ FirstProgress (now (forward .entry)) (now (backward .entry)) start end (now («start_labels» .exit)) (now («end_labels» .exit)) (now (states .exit)) r ⌝ }
-{
-    tables::begin(
-        start,
-        end,
-        start_labels,
-        start_neighbours,
-        end_labels,
-        end_neighbours,
-        states,
-    );
-    first_progress(
-        forward,
-        backward,
-        start,
-        end,
-        start_labels,
-        end_labels,
-        states,
-    )
-}
-
-// The search as far as a cap. Start equal to end is a route of length 0 with the tables as at the beginning, at any cap.
-// Otherwise turns are made until a side has no labelled undecided node, which is after at most as many turns as there are nodes,
-// or until the turns of the cap are used up.
-pub fn find(
+// The search as far as a cap, with lists for the two queues. Start equal to end is a route of length 0 with the tables as at the
+// beginning, at any cap. Otherwise turns are made until a side has no labelled undecided node, which is after at most as many turns
+// as there are nodes, or until the turns of the cap are used up.
+fn make_turns(
     tails: &[u16],
     heads: &[u16],
     weights: &[u32],
@@ -193,14 +173,16 @@ pub fn find(
     end_labels: &mut [u32],
     end_neighbours: &mut [u16],
     states: &mut [u8],
+    start_queue: &mut [u64],
+    end_queue: &mut [u64],
 ) -> Stop
     requires { ⌜ Searchable (query (network (length (now states)) (now tails) (now heads) (now weights)) (now forward) (now backward) start end (now pattern)) (index (now «out_arcs») (now «out_begins») (now «in_arcs») (now «in_begins»)) ⌝ }
     requires { ⌜ Long (length (now states)) (now «start_labels») (now «start_neighbours») (now «end_labels») (now «end_neighbours») (now states) ⌝ }
+    requires { ⌜ QueueRoom (length (now states)) (now «start_queue») ⌝ }
+    requires { ⌜ QueueRoom (length (now states)) (now «end_queue») ⌝ }
     ensures { λ r. ⌜ StoppedAt (query (network (length (now (states .entry))) (now (tails .entry)) (now (heads .entry)) (now (weights .entry))) (now (forward .entry)) (now (backward .entry)) start end (now (pattern .entry))) cap (standing (now («start_labels» .exit)) (now («start_neighbours» .exit)) (now («end_labels» .exit)) (now («end_neighbours» .exit)) (now (states .exit)) (r .progress)) r ⌝ }
 {
-    let mut p = begin(
-        forward,
-        backward,
+    tables::begin(
         start,
         end,
         start_labels,
@@ -209,6 +191,7 @@ pub fn find(
         end_neighbours,
         states,
     );
+    let mut p = begin_queues(forward, backward, start, end, start_queue, end_queue);
     if start == end {
         p.length = 0;
         p.meeting = start;
@@ -243,6 +226,8 @@ pub fn find(
                     end_labels,
                     end_neighbours,
                     states,
+                    start_queue,
+                    end_queue,
                     turns,
                     a,
                     b,
@@ -260,4 +245,83 @@ pub fn find(
         }
     }
     Stop { progress: p, over }
+}
+
+// The search as far as a cap. The lists for the two queues are its own and have one of two lengths, so that a small district does
+// not pay for the beginning of what the largest needs; of either only as many entries as the nodes need are lent and cleared.
+pub fn find(
+    tails: &[u16],
+    heads: &[u16],
+    weights: &[u32],
+    out_arcs: &[u16],
+    out_begins: &[u16],
+    in_arcs: &[u16],
+    in_begins: &[u16],
+    forward: &[i32],
+    backward: &[i32],
+    start: u16,
+    end: u16,
+    pattern: &[u8],
+    cap: usize,
+    start_labels: &mut [u32],
+    start_neighbours: &mut [u16],
+    end_labels: &mut [u32],
+    end_neighbours: &mut [u16],
+    states: &mut [u8],
+) -> Stop
+    requires { ⌜ Searchable (query (network (length (now states)) (now tails) (now heads) (now weights)) (now forward) (now backward) start end (now pattern)) (index (now «out_arcs») (now «out_begins») (now «in_arcs») (now «in_begins»)) ⌝ }
+    requires { ⌜ Long (length (now states)) (now «start_labels») (now «start_neighbours») (now «end_labels») (now «end_neighbours») (now states) ⌝ }
+    ensures { λ r. ⌜ StoppedAt (query (network (length (now (states .entry))) (now (tails .entry)) (now (heads .entry)) (now (weights .entry))) (now (forward .entry)) (now (backward .entry)) start end (now (pattern .entry))) cap (standing (now («start_labels» .exit)) (now («start_neighbours» .exit)) (now («end_labels» .exit)) (now («end_neighbours» .exit)) (now (states .exit)) (r .progress)) r ⌝ }
+{
+    let room = 2 * states.len() - 1;
+    if room <= FEW_ENTRIES {
+        let mut start_queue = [0u64; FEW_ENTRIES];
+        let mut end_queue = [0u64; FEW_ENTRIES];
+        return make_turns(
+            tails,
+            heads,
+            weights,
+            out_arcs,
+            out_begins,
+            in_arcs,
+            in_begins,
+            forward,
+            backward,
+            start,
+            end,
+            pattern,
+            cap,
+            start_labels,
+            start_neighbours,
+            end_labels,
+            end_neighbours,
+            states,
+            &mut start_queue[..room],
+            &mut end_queue[..room],
+        );
+    }
+    let mut start_queue = [0u64; MOST_ENTRIES];
+    let mut end_queue = [0u64; MOST_ENTRIES];
+    make_turns(
+        tails,
+        heads,
+        weights,
+        out_arcs,
+        out_begins,
+        in_arcs,
+        in_begins,
+        forward,
+        backward,
+        start,
+        end,
+        pattern,
+        cap,
+        start_labels,
+        start_neighbours,
+        end_labels,
+        end_neighbours,
+        states,
+        &mut start_queue[..room],
+        &mut end_queue[..room],
+    )
 }

@@ -6,7 +6,7 @@ use lib.IntN.{ℤ}
 use Rattle.nba.specs.Search.{Chosen, none, node, floorAfter}
 use Rattle.steps.specs.declared.Candidate.{Candidate}
 use Rattle.steps.specs.declared.Candidate.the-variants.{Nothing, Node}
-use Rattle.steps.specs.Steps.{meant, considered, rejects}
+use Rattle.steps.specs.Steps.{meant, keyFor, rejects}
 
 -- two candidates of the code that stand for the same one are the same
 written : Chosen → Candidate
@@ -21,10 +21,9 @@ written-meant (Node v k) = refl
 pub same-candidate : (a b : Candidate) → meant a ≡ meant b → a ≡ b
 same-candidate a b e = sym (written-meant a) ∙ (ap written e ∙ written-meant b)
 
--- `consider`
-pub consider-one-answer : (best : Candidate) (v label state : ℕ) (potential : ℤ) (r s : Candidate)
-    → meant r ≡ considered (meant best) v label state potential → meant s ≡ considered (meant best) v label state potential → r ≡ s
-consider-one-answer best v label state potential r s e f = same-candidate r s (e ∙ sym f)
+-- `key`
+pub key-one-answer : (label : ℕ) (potential : ℤ) (r s : ℤ) → r ≡ keyFor label potential → s ≡ keyFor label potential → r ≡ s
+key-one-answer label potential r s e f = e ∙ sym f
 
 -- `reject`
 pub reject-one-answer : (best label : ℕ) (own target floor theirs : ℤ) (r s : Bool)

@@ -1,12 +1,11 @@
-// Steps 3, 4 and 6 of a turn (docs/RULES.md, "The search, turn by turn") on bare numbers: one node beside the best candidate so
-// far, the two tests by which a node is rejected, and the new floor. They stand by themselves, with no lists, so that a wrong step
-// is refused in seconds.
+// Steps 3, 4 and 6 of a turn (docs/RULES.md, "The search, turn by turn") on bare numbers: a node's key, the two tests by which a
+// node is rejected, and the new floor. They stand by themselves, with no lists, so that a wrong step is refused in seconds.
 ghost use mathlib.Core.Path.{_≡_};
 ghost use Prim.Native.Nat.{_<_, _^_};
 ghost use lib.IntN.{pos, _+ℤ_, _-ℤ_};
-ghost use lib.Signed.{leZ, ltZ, mag};
+ghost use lib.Signed.{leZ, mag};
 ghost use Rattle.nba.specs.Search.{floorAfter};
-ghost use Rattle.steps.specs.Steps.{considered, meant, rejects};
+ghost use Rattle.steps.specs.Steps.{keyFor, meant, rejects};
 
 // A missing label, and a missing best length.
 pub const MISSING: u32 = 4294967295;
@@ -20,41 +19,13 @@ pub enum Candidate {
     Node(u16, i64),
 }
 
-// A node's key: its label plus the potential, exact in 64 bits.
-fn key(label: u32, potential: i32) -> i64
-    ensures { λ r. ⌜ r ≡ pos label +ℤ potential ⌝ }
+// Step 3: a node's key, its label plus the side's own potential, exact in 64 bits.
+pub fn key(label: u32, potential: i32) -> i64
+    ensures { λ r. ⌜ r ≡ keyFor label potential ⌝ }
 {
-    label as i64 + potential as i64
-}
-
-// The order of keys.
-fn below(a: i64, b: i64) -> bool
-    ensures { λ r. ⌜ r ≡ ltZ a b ⌝ }
-{
-    a < b
-}
-
-// Node v beside the best candidate so far: an undecided labelled node with a lower key takes its place.
-pub fn consider(best: Candidate, v: u16, label: u32, state: u8, potential: i32) -> Candidate
-    ensures { λ r. ⌜ meant r ≡ considered (meant best) v label state potential ⌝ }
-{
-    if state != UNDECIDED {
-        return best;
-    }
-    if MISSING <= label {
-        return best;
-    }
-    let k = key(label, potential);
-    match best {
-        Candidate::Nothing => Candidate::Node(v, k),
-        Candidate::Node(_, least) => {
-            if below(k, least) {
-                Candidate::Node(v, k)
-            } else {
-                best
-            }
-        }
-    }
+    let given = label as i64;
+    let ahead = potential as i64;
+    given + ahead
 }
 
 // A label plus another side's floor, exact in 64 bits.

@@ -1,15 +1,16 @@
 // One turn of the search (docs/RULES.md, "The search, turn by turn"), seen from the side whose turn it is. Every function
 // here is handed the side's own lists first and the other side's after them, with tails and heads exchanged for the end
-// side and its own way of the index, so that one text serves both sides.
+// side and its own way of the index, so that one text serves both sides. Each side has the nodes that wait for it in a queue
+// (crate `queue`): no turn looks at all nodes or at all arcs.
 ghost use mathlib.Core.Path.{_≡_};
 ghost use Prim.Native.Nat.{_<_, _^_};
 ghost use lib.ListN.{length};
 ghost use lib.Signed.{mag};
 ghost use Rattle.network.specs.Network.{start, network};
 ghost use Rattle.nba.specs.Why.ByMark.{labelByMark, lookEachByMark};
-ghost use Rattle.nba.specs.Search.{arcsOf, leastBelow};
-ghost use Rattle.steps.specs.Steps.{meant};
-ghost use Rattle.turn.specs.Turn.{Ahead, Openable, Passed, bestOf, nodeTaken, reach, took};
+ghost use Rattle.nba.specs.Search.{arcsOf};
+ghost use Rattle.queue.specs.Queue.{QueueOf};
+ghost use Rattle.turn.specs.Turn.{Ahead, Matched, Openable, Queues, bestOf, nodeTaken, reach, took};
 use steps::Candidate;
 use steps::UNDECIDED;
 
@@ -17,37 +18,6 @@ use steps::UNDECIDED;
 pub struct Best {
     pub length: u32,
     pub node: u16,
-}
-
-// What both sides take next.
-pub struct Next {
-    pub own: Candidate,
-    pub other: Candidate,
-}
-
-// One pass over the nodes finds what both sides take next, and so the floor of the side that has had its turn.
-pub fn next_candidates(
-    states: &[u8],
-    labels: &[u32],
-    own: &[i32],
-    theirs: &[u32],
-    other: &[i32],
-) -> Next
-    requires { ⌜ Passed (length (now states)) (now labels) (now own) (now theirs) (now other) ⌝ }
-    ensures mine { λ r. ⌜ meant (r .own) ≡ leastBelow (now (labels .entry)) (now (states .entry)) (now (own .entry)) (length (now (states .entry))) ⌝ }
-    ensures beyond { λ r. ⌜ meant (r .other) ≡ leastBelow (now (theirs .entry)) (now (states .entry)) (now (other .entry)) (length (now (states .entry))) ⌝ }
-{
-    let mut mine = Candidate::Nothing;
-    let mut beyond = Candidate::Nothing;
-    for v in 0..states.len() {
-        let state = states[v];
-        mine = steps::consider(mine, v as u16, labels[v], state, own[v]);
-        beyond = steps::consider(beyond, v as u16, theirs[v], state, other[v]);
-    }
-    Next {
-        own: mine,
-        other: beyond,
-    }
 }
 
 // Node v gets label l and neighbour u; a lower sum of its two labels becomes the best length.
@@ -78,22 +48,27 @@ fn label_node(
 }
 
 // Step 5: the arcs of u, in number order: they are u's part of the index. One to a node that has left and one that gives
-// no lower label are passed over.
+// no lower label are passed over. A node that gets a label waits with it.
 fn open_node(
     near: &[u16],
     far: &[u16],
     weights: &[u32],
     arcs: &[u16],
     begins: &[u16],
+    own: &[i32],
     labels: &mut [u32],
     neighbours: &mut [u16],
     theirs: &[u32],
     states: &[u8],
+    own_queue: &mut [u64],
     u: u16,
     so_far: Best,
 ) -> Best
     requires { ⌜ Openable (now near) (now far) (now weights) (now arcs) (now begins) (now labels) (now neighbours) (now theirs) (now states) u ⌝ }
-    ensures { λ r. ⌜ reach (now (labels .exit)) (now (neighbours .exit)) r ≡ lookEachByMark start (network (length (now (labels .entry))) (now (near .entry)) (now (far .entry)) (now (weights .entry))) (now (theirs .entry)) (now (states .entry)) u (arcsOf start (network (length (now (labels .entry))) (now (near .entry)) (now (far .entry)) (now (weights .entry))) u) (reach (now (labels .entry)) (now (neighbours .entry)) «so_far») ⌝ }
+    requires { ⌜ length (now own) ≡ length (now states) ⌝ }
+    requires { ⌜ QueueOf (now labels) (now states) (now own) (now «own_queue») ⌝ }
+    ensures looked { λ r. ⌜ reach (now (labels .exit)) (now (neighbours .exit)) r ≡ lookEachByMark start (network (length (now (labels .entry))) (now (near .entry)) (now (far .entry)) (now (weights .entry))) (now (theirs .entry)) (now (states .entry)) u (arcsOf start (network (length (now (labels .entry))) (now (near .entry)) (now (far .entry)) (now (weights .entry))) u) (reach (now (labels .entry)) (now (neighbours .entry)) «so_far») ⌝ }
+    ensures queued { λ _. ⌜ QueueOf (now (labels .exit)) (now (states .entry)) (now (own .entry)) (now («own_queue» .exit)) ⌝ }
 {
     let mut best = so_far;
     let from = u as usize;
@@ -111,11 +86,13 @@ fn open_node(
             continue 'arcs;
         }
         best = label_node(labels, neighbours, theirs, u, v, l as u32, best);
+        queue::enter(own_queue, v, l as u32, own[i]);
     }
     best
 }
 
-// Node u leaves the undecided set for good: rejected, or opened with its arcs looked at.
+// Node u leaves the undecided set for good: it waits for neither side any more, and it is rejected, or opened with its arcs looked
+// at.
 fn take_node(
     near: &[u16],
     far: &[u16],
@@ -128,6 +105,8 @@ fn take_node(
     neighbours: &mut [u16],
     theirs: &[u32],
     states: &mut [u8],
+    own_queue: &mut [u64],
+    other_queue: &mut [u64],
     u: u16,
     target: u16,
     floor: i64,
@@ -135,10 +114,14 @@ fn take_node(
     best: Best,
 ) -> Best
     requires { ⌜ Openable (now near) (now far) (now weights) (now arcs) (now begins) (now labels) (now neighbours) (now theirs) (now states) u ⌝ }
-    requires { ⌜ Passed (length (now states)) (now labels) (now own) (now theirs) (now other) ⌝ }
-    requires { ⌜ (target < length (now own)) × (mag floor < 2 ^ 40) × (opened < 255) ⌝ }
-    ensures { λ r. ⌜ took (now (labels .exit)) (now (neighbours .exit)) (now (states .exit)) r ≡ nodeTaken (network (length (now (labels .entry))) (now (near .entry)) (now (far .entry)) (now (weights .entry))) (now (own .entry)) (now (other .entry)) (now (theirs .entry)) u target floor opened (took (now (labels .entry)) (now (neighbours .entry)) (now (states .entry)) best) ⌝ }
+    requires { ⌜ Matched (length (now states)) (now labels) (now own) (now theirs) (now other) ⌝ }
+    requires { ⌜ Queues (now labels) (now own) (now theirs) (now other) (now states) (now «own_queue») (now «other_queue») ⌝ }
+    requires { ⌜ (target < length (now own)) × (mag floor < 2 ^ 40) × (0 < opened) × (opened < 255) ⌝ }
+    ensures taken { λ r. ⌜ took (now (labels .exit)) (now (neighbours .exit)) (now (states .exit)) r ≡ nodeTaken (network (length (now (labels .entry))) (now (near .entry)) (now (far .entry)) (now (weights .entry))) (now (own .entry)) (now (other .entry)) (now (theirs .entry)) u target floor opened (took (now (labels .entry)) (now (neighbours .entry)) (now (states .entry)) best) ⌝ }
+    ensures queued { λ _. ⌜ Queues (now (labels .exit)) (now (own .entry)) (now (theirs .entry)) (now (other .entry)) (now (states .exit)) (now («own_queue» .exit)) (now («other_queue» .exit)) ⌝ }
 {
+    queue::leave(own_queue, u);
+    queue::leave(other_queue, u);
     let i = u as usize;
     let length = best.length;
     if steps::reject(
@@ -159,10 +142,12 @@ fn take_node(
         weights,
         arcs,
         begins,
+        own,
         labels,
         neighbours,
         theirs,
         states,
+        own_queue,
         u,
         best,
     )
@@ -179,7 +164,7 @@ pub struct Progress {
     pub other: Candidate,
 }
 
-// A whole turn of the side: node u, its candidate, is taken, and one pass finds what both sides take next.
+// A whole turn of the side: node u, its candidate, is taken, and the queues know what both sides take next.
 pub fn side_turn(
     near: &[u16],
     far: &[u16],
@@ -192,16 +177,20 @@ pub fn side_turn(
     neighbours: &mut [u16],
     theirs: &[u32],
     states: &mut [u8],
+    own_queue: &mut [u64],
+    other_queue: &mut [u64],
     u: u16,
     target: u16,
     opened: u8,
     p: Progress,
 ) -> Progress
     requires { ⌜ Openable (now near) (now far) (now weights) (now arcs) (now begins) (now labels) (now neighbours) (now theirs) (now states) u ⌝ }
-    requires { ⌜ Passed (length (now states)) (now labels) (now own) (now theirs) (now other) ⌝ }
-    requires { ⌜ (target < length (now own)) × (mag (p .beyond) < 2 ^ 40) × (opened < 255) × (mag (p .floor) < 2 ^ 40) ⌝ }
+    requires { ⌜ Matched (length (now states)) (now labels) (now own) (now theirs) (now other) ⌝ }
+    requires { ⌜ Queues (now labels) (now own) (now theirs) (now other) (now states) (now «own_queue») (now «other_queue») ⌝ }
+    requires { ⌜ (target < length (now own)) × (mag (p .beyond) < 2 ^ 40) × (0 < opened) × (opened < 255) × (mag (p .floor) < 2 ^ 40) ⌝ }
     ensures tables { λ r. ⌜ took (now (labels .exit)) (now (neighbours .exit)) (now (states .exit)) (bestOf r) ≡ nodeTaken (network (length (now (labels .entry))) (now (near .entry)) (now (far .entry)) (now (weights .entry))) (now (own .entry)) (now (other .entry)) (now (theirs .entry)) u target (p .beyond) opened (took (now (labels .entry)) (now (neighbours .entry)) (now (states .entry)) (bestOf p)) ⌝ }
     ensures ahead { λ r. ⌜ Ahead (now (labels .exit)) (now (own .entry)) (now (theirs .entry)) (now (other .entry)) (now (states .exit)) p r ⌝ }
+    ensures queued { λ _. ⌜ Queues (now (labels .exit)) (now (own .entry)) (now (theirs .entry)) (now (other .entry)) (now (states .exit)) (now («own_queue» .exit)) (now («other_queue» .exit)) ⌝ }
 {
     let beyond = p.beyond;
     let so_far = Best {
@@ -220,15 +209,16 @@ pub fn side_turn(
         neighbours,
         theirs,
         states,
+        own_queue,
+        other_queue,
         u,
         target,
         beyond,
         opened,
         so_far,
     );
-    let next = next_candidates(states, labels, own, theirs, other);
-    let mine = next.own;
-    let yours = next.other;
+    let mine = queue::next_node(own_queue);
+    let yours = queue::next_node(other_queue);
     let floor = steps::floor_after(p.floor, mine);
     Progress {
         length: best.length,

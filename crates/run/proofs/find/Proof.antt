@@ -1,303 +1,146 @@
--- `find` meets its contract: what `begin` leaves is the state of step 1, which is the end if start is end; otherwise, before each
--- turn, the lists stand for the state after as many turns as were made, which the cap allows, and a search that goes on has made
--- fewer turns than there are nodes. Assumes nothing.
-use Prim.Native.Nat.{ℕ, _-_}
-use mathlib.Core.Path.{_≡_, refl, sym, ap, _∙_}
-use mathlib.Core.Bool.{false}
+-- `find` meets its contract: the lists of either size have room for the two queues, and `make_turns` does the rest. Assumes
+-- nothing.
 use native.Mathlib.Omega.{arith}
-use lib.ListN.{length}
 use borrow.Author.Needs.{needs}
-use Rattle.network.specs.Network.{start, end, network}
-use Rattle.network.specs.Query.{Query, query}
-use Rattle.index.specs.Index.{index}
-use Rattle.run.proofs.RunLaws.{Going, begun-underway, over-at-once, both-take, turns-left, going-on, stops-ended, stops-used-up, kept-long}
+use Rattle.run.proofs.RunLaws.{zeroes-long, zeroes-room}
 use Rattle.run.proofs.find.Statement.{statement}
 use Rattle.run.proofs.find.Tie as tie
 
-abbrev Inv-turns : tie.InvT-turns
-Inv-turns tails heads weights out-arcs out-begins in-arcs in-begins forward backward s e pattern cap start-labels₀ start-neighbours₀ end-labels₀ end-neighbours₀ states₀ p₀ over₀ turns₀ start-labels start-neighbours end-labels end-neighbours states p over turns =
-    (length states ≡ length states₀)
-    × (over ≡ false)
-    × Going (query (network (length states) tails heads weights) forward backward s e pattern) (index out-arcs out-begins in-arcs in-begins) cap turns start-labels start-neighbours end-labels end-neighbours states p
+mul-room : tie.Need-mul-room
+mul-room c = search needs
 
-abbrev μ-turns : tie.MeasureT-turns
-μ-turns tails heads weights out-arcs out-begins in-arcs in-begins forward backward s e pattern cap start-labels₀ start-neighbours₀ end-labels₀ end-neighbours₀ states₀ p₀ over₀ turns₀ start-labels start-neighbours end-labels end-neighbours states p over turns =
-    length states₀ - turns
+sub-room : tie.Need-sub-room
+sub-room c =
+    let entry = c .before .before .before .before .before .before .before .before .before .before .before .before .before in
+    omega (arith, entry .pre .0 .sound .sized .some-nodes)
 
--- the query at entry, of a network with n nodes
-abbrev asked : tie.Start Inv-turns μ-turns → ℕ → Query
-asked s n =
-    query (network n (s .args .tails .now) (s .args .heads .now) (s .args .weights .now)) (s .args .forward .now) (s .args .backward .now)
-    (s .args .start) (s .args .end) (s .args .pattern .now)
+array-borrow-prefix-start-queue : tie.Need-array-borrow-prefix-start-queue
+array-borrow-prefix-start-queue c = search needs
 
-begin-requires : tie.Need-begin-requires Inv-turns μ-turns
-begin-requires c κs =
-    let entry = c .before .before .before .before .before .before .before .before .before .before .before .before .before .before .before .before .before .before in
-    let sound = entry .pre .0 .sound in (
-      entry .pre .1,
-      record {
-        few = sound .sized .few-nodes;
-        forward-long = sound .sized .forward-long;
-        backward-long = sound .sized .backward-long;
-        start-in = sound .source-in start;
-        end-in = sound .source-in end;
-      },
-    )
+slice-aggregate-make-turns : tie.Need-slice-aggregate-make-turns
+slice-aggregate-make-turns c = zeroes-long _ 255 (omega arith)
 
-same-length : tie.Need-same-length Inv-turns μ-turns
+array-borrow-prefix-end-queue : tie.Need-array-borrow-prefix-end-queue
+array-borrow-prefix-end-queue c = search needs
+
+slice-aggregate-make-turns-2 : tie.Need-slice-aggregate-make-turns-2
+slice-aggregate-make-turns-2 c = zeroes-long _ 255 (omega arith)
+
+make-turns-requires : tie.Need-make-turns-requires
+make-turns-requires c κs =
+    let entry = c .before .before .before .before .before .before .before .before .before .before .before .before .before .before .before .before .before .before .before .before .before in
+    let some = entry .pre .0 .sound .sized .some-nodes in
+    let room = zeroes-room _ 255 some (omega arith) in
+    (entry .pre .0, (entry .pre .1, (room, room)))
+
+same-length : tie.Need-same-length
 same-length c =
-    let start-labels = c .before .before .before .before .before .before .before .before .before .before .start-labels in
+    let start-labels = c .before .before .before .before .before .before .before .before .before .before .before .start-labels in
     start-labels .given
 
-same-length-2 : tie.Need-same-length-2 Inv-turns μ-turns
+same-length-2 : tie.Need-same-length-2
 same-length-2 c =
-    let start-neighbours = c .before .before .before .before .before .before .before .before .start-neighbours in
+    let start-neighbours = c .before .before .before .before .before .before .before .before .before .start-neighbours in
     start-neighbours .given
 
-same-length-3 : tie.Need-same-length-3 Inv-turns μ-turns
+same-length-3 : tie.Need-same-length-3
 same-length-3 c =
-    let end-labels = c .before .before .before .before .before .before .end-labels in
+    let end-labels = c .before .before .before .before .before .before .before .end-labels in
     end-labels .given
 
-same-length-4 : tie.Need-same-length-4 Inv-turns μ-turns
+same-length-4 : tie.Need-same-length-4
 same-length-4 c =
-    let end-neighbours = c .before .before .before .before .end-neighbours in
+    let end-neighbours = c .before .before .before .before .before .end-neighbours in
     end-neighbours .given
 
-same-length-5 : tie.Need-same-length-5 Inv-turns μ-turns
+same-length-5 : tie.Need-same-length-5
 same-length-5 c =
-    let states = c .before .before .states in
+    let states = c .before .before .before .states in
     states .given
 
-returns : tie.Need-returns Inv-turns μ-turns
+returns : tie.Need-returns
 returns c =
-    let entry = c .before .before .before .before .before .before .before .before .before .before .before .before .before .before .before .before .before .before .before .before .before .before .before .before .before .before .before .before .before .before in
-    let begin = c .before .before .before .before .before .before .before .before .before .before .before .begin in
-    over-at-once (entry .pre .0 .sound) (begin .ensures .0) (begin .ensures .1) (entry .args .cap) refl (c .if1 .taken) refl refl refl refl refl refl
+    let make-turns = c .before .before .before .before .before .before .before .before .before .before .before .before .make-turns in
+    make-turns .ensures
 
-turns-holds : tie.Need-turns-holds Inv-turns μ-turns
-turns-holds c =
-    let entry = c .before .before .before .before .before .before .before .before .before .before .before .before .before .before .before .before .before .before .before .before .before .before .before .before .before .before .before .before .before .before in
-    let begin = c .before .before .before .before .before .before .before .before .before .before .before .begin in
-    let start-labels = c .before .before .before .before .before .before .before .before .before .before .start-labels in
-    let start-neighbours = c .before .before .before .before .before .before .before .before .start-neighbours in
-    let end-labels = c .before .before .before .before .before .before .end-labels in
-    let end-neighbours = c .before .before .before .before .end-neighbours in
-    let states = c .before .before .states in (
-      refl,
-      refl,
-      rw (states .given)
-          (record {
-            few = omega arith;
-            asked = entry .pre .0;
-            long = kept-long (entry .pre .1) (start-labels .given) (start-neighbours .given) (end-labels .given) (end-neighbours .given) (states .given);
-            way = begun-underway (entry .pre .0 .sound) (begin .ensures .0) (begin .ensures .1);
-          }),
-    )
+array-borrow-prefix-start-queue-2 : tie.Need-array-borrow-prefix-start-queue-2
+array-borrow-prefix-start-queue-2 c = search needs
 
-next-requires : tie.Need-next-requires Inv-turns μ-turns
-next-requires c κs = search needs
+slice-aggregate-make-turns-3 : tie.Need-slice-aggregate-make-turns-3
+slice-aggregate-make-turns-3 c =
+    let entry = c .before .before .before .before .before .before .before .before .before .before .before .before .before .before .before .before .before .before .before .before in
+    zeroes-long _ 4095 (omega (arith, entry .pre .0 .sound .sized .few-nodes))
 
-enum-known-course : tie.Need-enum-known-course Inv-turns μ-turns
-enum-known-course c = search needs
+array-borrow-prefix-end-queue-2 : tie.Need-array-borrow-prefix-end-queue-2
+array-borrow-prefix-end-queue-2 c = search needs
 
-next-turn-requires : tie.Need-next-turn-requires Inv-turns μ-turns
-next-turn-requires c κs =
-    let entry = c .before .before .before .before .before .before .before .before .before .before .before .before .before .before .before .before .before .before .before .before .before .before .before .before .before .before .before .before .before .before .before .before .before .before .before .before .before .before .before .before in
-    let turns = c .before .before .before .before .before .before .before .before .before .turns in
-    let next = c .before .before .before .before .before .before .before .before .next in
-    let course = c .before .before .before .before .before .before .course in
-    let w = turns .inv .2 in
-    (w .asked, (w .long, both-take (w .asked .sound) (w .way) (entry .args .cap) (sym (course .given .1) ∙ next .ensures) refl refl))
+slice-aggregate-make-turns-4 : tie.Need-slice-aggregate-make-turns-4
+slice-aggregate-make-turns-4 c =
+    let entry = c .before .before .before .before .before .before .before .before .before .before .before .before .before .before .before .before .before .before .before .before .before in
+    zeroes-long _ 4095 (omega (arith, entry .pre .0 .sound .sized .few-nodes))
 
-add-turns : tie.Need-add-turns Inv-turns μ-turns
-add-turns c =
-    let entry = c .before .before .before .before .before .before .before .before .before .before .before .before .before .before .before .before .before .before .before .before .before .before .before .before .before .before .before .before .before .before .before .before .before .before .before .before .before .before .before .before .before .before .before .before .before .before .before .before .before .before .before in
-    let turns = c .before .before .before .before .before .before .before .before .before .before .before .before .before .before .before .before .before .before .before .before .turns in
-    let next = c .before .before .before .before .before .before .before .before .before .before .before .before .before .before .before .before .before .before .before .next in
-    let course = c .before .before .before .before .before .before .before .before .before .before .before .before .before .before .before .before .before .course in
-    omega (
-      arith,
-      turns .inv .2 .asked .sound .sized .few-nodes,
-      turns-left (turns .inv .2 .asked .sound) (turns .inv .2 .way) (entry .args .cap) (sym (course .given .1) ∙ next .ensures),
-    )
+make-turns-requires-2 : tie.Need-make-turns-requires-2
+make-turns-requires-2 c κs =
+    let entry = c .before .before .before .before .before .before .before .before .before .before .before .before .before .before .before .before .before .before .before .before .before in
+    let some = entry .pre .0 .sound .sized .some-nodes in
+    let room = zeroes-room _ 4095 some (omega (arith, entry .pre .0 .sound .sized .few-nodes)) in
+    (entry .pre .0, (entry .pre .1, (room, room)))
 
-turns-less : tie.Need-turns-less Inv-turns μ-turns
-turns-less c =
-    let entry = c .before .before .before .before .before .before .before .before .before .before .before .before .before .before .before .before .before .before .before .before .before .before .before .before .before .before .before .before .before .before .before .before .before .before .before .before .before .before .before .before .before .before .before .before .before .before .before .before .before .before .before in
-    let turns = c .before .before .before .before .before .before .before .before .before .before .before .before .before .before .before .before .before .before .before .before .turns in
-    let next = c .before .before .before .before .before .before .before .before .before .before .before .before .before .before .before .before .before .before .before .next in
-    let course = c .before .before .before .before .before .before .before .before .before .before .before .before .before .before .before .before .before .course in
-    omega (
-      arith,
-      turns .inv .0,
-      turns-left (turns .inv .2 .asked .sound) (turns .inv .2 .way) (entry .args .cap) (sym (course .given .1) ∙ next .ensures),
-    )
-
-turns-again : tie.Need-turns-again Inv-turns μ-turns
-turns-again c =
-    let entry = c .before .before .before .before .before .before .before .before .before .before .before .before .before .before .before .before .before .before .before .before .before .before .before .before .before .before .before .before .before .before .before .before .before .before .before .before .before .before .before .before .before .before .before .before .before .before .before .before .before .before .before in
-    let turns = c .before .before .before .before .before .before .before .before .before .before .before .before .before .before .before .before .before .before .before .before .turns in
-    let next = c .before .before .before .before .before .before .before .before .before .before .before .before .before .before .before .before .before .before .before .next in
-    let course = c .before .before .before .before .before .before .before .before .before .before .before .before .before .before .before .before .before .course in
-    let next-turn = c .before .before .before .before .before .before .before .before .before .before .next-turn in
-    let start-labels2 = c .before .before .before .before .before .before .before .before .before .start-labels2 in
-    let start-neighbours2 = c .before .before .before .before .before .before .before .start-neighbours2 in
-    let end-labels2 = c .before .before .before .before .before .end-labels2 in
-    let end-neighbours2 = c .before .before .before .end-neighbours2 in
-    let states2 = c .before .states2 in (
-      states2 .given ∙ turns .inv .0,
-      turns .inv .1,
-      going-on {q = asked entry (length (turns .states))} {i = turns .turns}
-          {sl = turns .start-labels} {sn = turns .start-neighbours} {el = turns .end-labels} {en = turns .end-neighbours}
-          {states = turns .states} {p = turns .p}
-          (turns .inv .2)
-          _ _ _ _ _ _
-          (ap (asked entry) (sym (states2 .given))) (sym (course .given .1) ∙ next .ensures)
-          (start-labels2 .given) (start-neighbours2 .given) (end-labels2 .given) (end-neighbours2 .given) (states2 .given)
-          (next-turn .ensures .0) (next-turn .ensures .1),
-    )
-
-enum-told : tie.Need-enum-told Inv-turns μ-turns
-enum-told c = search needs
-
-enum-told-2 : tie.Need-enum-told-2 Inv-turns μ-turns
-enum-told-2 c = search needs
-
--- at the head of the turns each list is as long as it was lent
-as-lent : (c : tie.At-turns Inv-turns μ-turns) →
-    let entry = c .before .before .before .before .before .before .before .before .before .before .before .before .before .before .before .before .before .before .before .before .before .before .before .before .before .before .before .before .before .before .before in
-    (length (c .turns .start-labels) ≡ length (entry .args .start-labels .now))
-    × (length (c .turns .start-neighbours) ≡ length (entry .args .start-neighbours .now))
-    × (length (c .turns .end-labels) ≡ length (entry .args .end-labels .now))
-    × (length (c .turns .end-neighbours) ≡ length (entry .args .end-neighbours .now))
-    × (length (c .turns .states) ≡ length (entry .args .states .now))
-as-lent c =
-    let entry = c .before .before .before .before .before .before .before .before .before .before .before .before .before .before .before .before .before .before .before .before .before .before .before .before .before .before .before .before .before .before .before in
-    let states = c .before .before .before .states in
-    let states-long = c .turns .inv .0 ∙ states .given in
-    let long = c .turns .inv .2 .long in
-    let lent = entry .pre .1 in (
-      long .labels-long ∙ states-long ∙ sym (lent .labels-long),
-      long .neighbours-long ∙ states-long ∙ sym (lent .neighbours-long),
-      long .theirs-long ∙ states-long ∙ sym (lent .theirs-long),
-      long .beyond-long ∙ states-long ∙ sym (lent .beyond-long),
-      states-long,
-    )
-
-same-length-6 : tie.Need-same-length-6 Inv-turns μ-turns
+same-length-6 : tie.Need-same-length-6
 same-length-6 c =
-    let at-turns = c .before .before .before in
-    as-lent at-turns .0
+    let start-labels2 = c .before .before .before .before .before .before .before .before .before .before .before .start-labels2 in
+    start-labels2 .given
 
-same-length-7 : tie.Need-same-length-7 Inv-turns μ-turns
+same-length-7 : tie.Need-same-length-7
 same-length-7 c =
-    let at-turns = c .before .before .before in
-    as-lent at-turns .1
+    let start-neighbours2 = c .before .before .before .before .before .before .before .before .before .start-neighbours2 in
+    start-neighbours2 .given
 
-same-length-8 : tie.Need-same-length-8 Inv-turns μ-turns
+same-length-8 : tie.Need-same-length-8
 same-length-8 c =
-    let at-turns = c .before .before .before in
-    as-lent at-turns .2
+    let end-labels2 = c .before .before .before .before .before .before .before .end-labels2 in
+    end-labels2 .given
 
-same-length-9 : tie.Need-same-length-9 Inv-turns μ-turns
+same-length-9 : tie.Need-same-length-9
 same-length-9 c =
-    let at-turns = c .before .before .before in
-    as-lent at-turns .3
+    let end-neighbours2 = c .before .before .before .before .before .end-neighbours2 in
+    end-neighbours2 .given
 
-same-length-10 : tie.Need-same-length-10 Inv-turns μ-turns
+same-length-10 : tie.Need-same-length-10
 same-length-10 c =
-    let at-turns = c .before .before .before in
-    as-lent at-turns .4
+    let states2 = c .before .before .before .states2 in
+    states2 .given
 
-returns-2 : tie.Need-returns-2 Inv-turns μ-turns
+returns-2 : tie.Need-returns-2
 returns-2 c =
-    let entry = c .before .before .before .before .before .before .before .before .before .before .before .before .before .before .before .before .before .before .before .before .before .before .before .before .before .before .before .before .before .before .before .before .before .before in
-    let if1 = c .before .before .before .before .if1 in
-    let turns = c .before .before .before .turns in
-    let at-turns = c .before .before .before in
-    let next = c .before .before .next in
-    stops-ended {q = asked entry (length (turns .states))} {i = turns .turns}
-    {sl = turns .start-labels} {sn = turns .start-neighbours} {el = turns .end-labels} {en = turns .end-neighbours}
-    {states = turns .states} {p = turns .p}
-    (turns .inv .2)
-    (asked entry (length (entry .args .states .now)))
-    (ap (asked entry) (as-lent at-turns .4))
-    (if1 .left)
-    (sym (c .enum-told .given .1) ∙ next .ensures)
-
-same-length-11 : tie.Need-same-length-11 Inv-turns μ-turns
-same-length-11 c =
-    let at-turns = c .before .before .before in
-    as-lent at-turns .0
-
-same-length-12 : tie.Need-same-length-12 Inv-turns μ-turns
-same-length-12 c =
-    let at-turns = c .before .before .before in
-    as-lent at-turns .1
-
-same-length-13 : tie.Need-same-length-13 Inv-turns μ-turns
-same-length-13 c =
-    let at-turns = c .before .before .before in
-    as-lent at-turns .2
-
-same-length-14 : tie.Need-same-length-14 Inv-turns μ-turns
-same-length-14 c =
-    let at-turns = c .before .before .before in
-    as-lent at-turns .3
-
-same-length-15 : tie.Need-same-length-15 Inv-turns μ-turns
-same-length-15 c =
-    let at-turns = c .before .before .before in
-    as-lent at-turns .4
-
-returns-3 : tie.Need-returns-3 Inv-turns μ-turns
-returns-3 c =
-    let entry = c .before .before .before .before .before .before .before .before .before .before .before .before .before .before .before .before .before .before .before .before .before .before .before .before .before .before .before .before .before .before .before .before .before .before in
-    let if1 = c .before .before .before .before .if1 in
-    let turns = c .before .before .before .turns in
-    let at-turns = c .before .before .before in
-    let next = c .before .before .next in
-    rw (turns .inv .1) (stops-used-up {q = asked entry (length (turns .states))} {i = turns .turns}
-    {sl = turns .start-labels} {sn = turns .start-neighbours} {el = turns .end-labels} {en = turns .end-neighbours}
-    {states = turns .states} {p = turns .p}
-    (turns .inv .2)
-    (asked entry (length (entry .args .states .now)))
-    (ap (asked entry) (as-lent at-turns .4))
-    (if1 .left)
-    (sym (c .enum-told2 .given .1) ∙ next .ensures))
+    let make-turns2 = c .before .before .before .before .before .before .before .before .before .before .before .before .make-turns2 in
+    make-turns2 .ensures
 
 pub find-spec : {M : Type 1} → statement M
 find-spec =
     tie.close
     (tie.spec
-    Inv-turns
-    μ-turns
-    begin-requires
+    mul-room
+    sub-room
+    array-borrow-prefix-start-queue
+    slice-aggregate-make-turns
+    array-borrow-prefix-end-queue
+    slice-aggregate-make-turns-2
+    make-turns-requires
     same-length
     same-length-2
     same-length-3
     same-length-4
     same-length-5
     returns
-    turns-holds
-    next-requires
-    enum-known-course
-    next-turn-requires
-    add-turns
-    turns-less
-    turns-again
-    enum-told
-    enum-told-2
+    array-borrow-prefix-start-queue-2
+    slice-aggregate-make-turns-3
+    array-borrow-prefix-end-queue-2
+    slice-aggregate-make-turns-4
+    make-turns-requires-2
     same-length-6
     same-length-7
     same-length-8
     same-length-9
     same-length-10
-    returns-2
-    same-length-11
-    same-length-12
-    same-length-13
-    same-length-14
-    same-length-15
-    returns-3)
+    returns-2)

@@ -6,11 +6,11 @@ use Rattle.network.proofs.SignedLocals.{wide-fits, wide-is, unsigned-is, sum-fi
 use Rattle.steps.proofs.key.Statement.{statement}
 use Rattle.steps.proofs.key.Tie as tie
 
-cast-result : tie.Need-cast-result
-cast-result c = search needs
+cast-given : tie.Need-cast-given
+cast-given c = search needs
 
-cast-result-2 : tie.Need-cast-result-2
-cast-result-2 c = wide-fits (c .fits .potential)
+cast-ahead : tie.Need-cast-ahead
+cast-ahead c = wide-fits (c .fits .potential)
 
 add-result : tie.Need-add-result
 add-result c = sum-fits (unsigned-is (c .fits .label)) (wide-is (c .fits .potential)) (omega arith) (omega arith)
@@ -19,4 +19,4 @@ returns : tie.Need-returns
 returns c = sum-is (unsigned-is (c .fits .label)) (wide-is (c .fits .potential)) (omega arith) (omega arith)
 
 pub key-spec : {M : Type 1} → statement M
-key-spec = tie.close (tie.spec cast-result cast-result-2 add-result returns)
+key-spec = tie.close (tie.spec cast-given cast-ahead add-result returns)

@@ -25,7 +25,7 @@ returns c =
     let entry = c .before .before .before .before .before .before .before .before .before .before .before .before .before .before in
     let match = c .before .before .before .before .match in
     let refuse-frame = c .before .before .refuse-frame in
-    stepped-as (no-query (fileOf _ _) (entry .args .frame) (not-among 4 0 1 2 3 5 (λ p q. omega arith) (λ p q. omega arith) (λ p q. omega arith) (λ p q. omega arith) (λ p q. omega arith) (match .keys2))) (refuse-frame .ensures .law _ (entry .pre .1 .1))
+    stepped-as (no-query (fileOf _ _) (entry .args .frame) (not-among 4 0 1 2 3 5 (λ p q. omega arith) (λ p q. omega arith) (λ p q. omega arith) (λ p q. omega arith) (λ p q. omega arith) (match .keys2))) (refuse-frame .ensures .law _ (entry .pre .1 .1 .0))
 
 one-too-many-requires : tie.Need-one-too-many-requires
 one-too-many-requires c κs = search needs
@@ -43,7 +43,7 @@ returns-2 c =
     let one-too-many-here = c .before .before .before .before .before .one-too-many in
     let if1 = c .before .before .before .before .if1 in
     let refuse-frame2 = c .before .before .refuse-frame2 in
-    stepped-as (rw (frame .given .1) (one-too-many _ _ _ _ _ _ (sym (one-too-many-here .ensures) ∙ if1 .taken))) (refuse-frame2 .ensures .law _ (entry .pre .1 .1))
+    stepped-as (rw (frame .given .1) (one-too-many _ _ _ _ _ _ (sym (one-too-many-here .ensures) ∙ if1 .taken))) (refuse-frame2 .ensures .law _ (entry .pre .1 .1 .0))
 
 turns-given-requires : tie.Need-turns-given-requires
 turns-given-requires c κs = search needs
@@ -51,37 +51,38 @@ turns-given-requires c κs = search needs
 slice-aggregate-answer-query : tie.Need-slice-aggregate-answer-query
 slice-aggregate-answer-query c =
     let entry = c .before .before .before .before .before .before .before .before .before .before .before .before .before .before .before .before in
-    sym (length-take-le _ _ (omega (arith, entry .pre .1 .1 .counted, entry .pre .1 .1 .roomy)))
+    sym (length-take-le _ _ (omega (arith, entry .pre .1 .1 .0 .counted, entry .pre .1 .1 .0 .roomy)))
 
 slice-aggregate-answer-query-2 : tie.Need-slice-aggregate-answer-query-2
 slice-aggregate-answer-query-2 c =
     let entry = c .before .before .before .before .before .before .before .before .before .before .before .before .before .before .before .before .before in
-    sym (length-take-le _ _ (omega (arith, entry .pre .1 .1 .counted, entry .pre .1 .1 .roomy)))
+    sym (length-take-le _ _ (omega (arith, entry .pre .1 .1 .0 .counted, entry .pre .1 .1 .0 .roomy)))
 
 slice-aggregate-answer-query-3 : tie.Need-slice-aggregate-answer-query-3
 slice-aggregate-answer-query-3 c =
     let entry = c .before .before .before .before .before .before .before .before .before .before .before .before .before .before .before .before .before .before in
-    sym (length-take-le _ _ (omega (arith, entry .pre .1 .1 .counted, entry .pre .1 .1 .roomy)))
+    sym (length-take-le _ _ (omega (arith, entry .pre .1 .1 .0 .counted, entry .pre .1 .1 .0 .roomy)))
 
 slice-aggregate-answer-query-4 : tie.Need-slice-aggregate-answer-query-4
 slice-aggregate-answer-query-4 c =
     let entry = c .before .before .before .before .before .before .before .before .before .before .before .before .before .before .before .before .before .before .before in
-    sym (length-take-le _ _ (omega (arith, entry .pre .1 .1 .counted, entry .pre .1 .1 .roomy)))
+    sym (length-take-le _ _ (omega (arith, entry .pre .1 .1 .0 .counted, entry .pre .1 .1 .0 .roomy)))
 
 slice-aggregate-answer-query-5 : tie.Need-slice-aggregate-answer-query-5
 slice-aggregate-answer-query-5 c =
     let entry = c .before .before .before .before .before .before .before .before .before .before .before .before .before .before .before .before .before .before .before .before in
-    sym (length-take-le _ _ (omega (arith, entry .pre .1 .1 .counted, entry .pre .1 .1 .roomy)))
+    sym (length-take-le _ _ (omega (arith, entry .pre .1 .1 .0 .counted, entry .pre .1 .1 .0 .roomy)))
 
 slice-aggregate-answer-query-6 : tie.Need-slice-aggregate-answer-query-6
 slice-aggregate-answer-query-6 c =
     let entry = c .before .before .before .before .before .before .before .before .before .before .before .before .before .before .before .before .before .before .before .before .before in
-    sym (length-take-le _ _ (omega (arith, entry .pre .1 .1 .counted, entry .pre .1 .1 .roomy)))
+    sym (length-take-le _ _ (omega (arith, entry .pre .1 .1 .0 .counted, entry .pre .1 .1 .0 .roomy)))
 
 answer-query-requires : tie.Need-answer-query-requires
 answer-query-requires c κs =
     let entry = c .before .before .before .before .before .before .before .before .before .before .before .before .before .before .before .before .before .before .before .before .before .before in
-    known-by (entry .args .reader) _ (entry .pre .1 .1) (entry .pre .1 .0)
+    let frame = c .before .before .before .before .before .before .before .before .before .before .before .frame in
+    (known-by (entry .args .reader) _ (entry .pre .1 .1 .0) (entry .pre .1 .0), sym (frame .given .1) ∙ entry .pre .1 .1 .1)
 
 next-line-requires : tie.Need-next-line-requires
 next-line-requires c κs = search needs
@@ -100,7 +101,7 @@ returns-3 c =
     let answer-query = c .before .before .before .answer-query in
     let r = entry .args .reader in
     stepped-as (rw (frame .given .1) (may-be-asked r _ _ _ _ _ (sym (one-too-many-here .ensures) ∙ if1 .left)))
-    (query-taken r _ _ _ _ _ _ (c .next-line .ensures) (entry .pre .1 .1) (placed-as (given-lines (frame .given .0 .1 .1 .0) _ _ (turns-given .ensures) _ refl) (answer-query .ensures)))
+    (query-taken r _ _ _ _ _ _ (c .next-line .ensures) (entry .pre .1 .1 .0) (placed-as (given-lines (frame .given .0 .1 .1 .0) _ _ (turns-given .ensures) _ refl) (answer-query .ensures)))
 
 pub take-query-spec : {M : Type 1} → statement M
 take-query-spec =
