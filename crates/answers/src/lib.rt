@@ -1,5 +1,7 @@
 // The lines of an answer (docs/RULES.md, "District frames"), written into lent room. What the lines are is defined in `frames`,
 // beside what the digits of a line mean to a reader; this crate puts them there, if they all fit.
+#![tactic(auto)]
+
 ghost use Rattle.std.specs.Prelude.{◌≡◌, ◌<◌, ◌≤◌, ◌+◌, ◌++◌, length, take};
 ghost use Rattle.network.specs.Answer.{number_of, place_of};
 ghost use Rattle.frames.specs.Digits.{digit_of, digits_of};

@@ -1,6 +1,8 @@
 // When a search with a cap on its turns stops, and what it then answers (docs/RULES.md, "Capped queries"). It stands by itself,
 // with numbers by value and no lists, so that a wrong stop is refused in seconds. A search without a cap is one with a cap that
 // always suffices.
+#![tactic(auto)]
+
 ghost use Rattle.std.specs.Prelude.{◌≡◌, true, ◌<◌, ◌^◌, pos, ◌-ℤ◌};
 ghost use Rattle.std.specs.Int.Signed.{le_z, mag};
 ghost use Rattle.nba.specs.Result.{excess_over, larger, or_zero};
@@ -12,7 +14,7 @@ use steps::Candidate;
 
 // How a search goes on after step 2: with a turn, in which the start side may take the first node and the end side the second;
 // not at all, since it has ended; or not at all, since the turns are used up.
-#[derive(Drop)]
+#[derive(Clone, Copy)]
 pub enum Course {
     Turn(u16, u16),
     Ended,

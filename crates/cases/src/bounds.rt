@@ -18,6 +18,7 @@ pub fn room(n: usize, path: usize) -> Lent {
 // A network whose arcs all go from node 0 to itself, with the same potentials on both sides, and a query from 0 to 0. It has
 // its index, where that can be built.
 fn loops(
+    out: &impl Print,
     name: &[u8],
     nodes: u16,
     ends: &[u16],
@@ -41,6 +42,7 @@ fn loops(
         &mut in_begins,
     );
     show::verdict(
+        out,
         name,
         index::check_query(
             nodes,
@@ -62,39 +64,39 @@ fn loops(
 }
 
 // So many nodes, with one arc and pattern 0.
-fn sized(name: &[u8], nodes: u16, potentials: &[i32], path: usize) {
-    loops(name, nodes, &[0], &[0], potentials, &[0], path);
+fn sized(out: &impl Print, name: &[u8], nodes: u16, potentials: &[i32], path: usize) {
+    loops(out, name, nodes, &[0], &[0], potentials, &[0], path);
 }
 
 // Node counts, and lists that are one entry short.
-pub fn node_counts() {
-    sized(b"0 nodes", 0, &[0; 1], 0);
-    sized(b"2,048 nodes", 2048, &[0; 2048], 2048);
-    sized(b"2,049 nodes", 2049, &[0; 2049], 2049);
-    sized(b"65,535 nodes", 65535, &[0; 65535], 65535);
-    sized(b"potentials one short", 2048, &[0; 2047], 2048);
-    sized(b"path one short", 2048, &[0; 2048], 2047);
+pub fn node_counts(out: &impl Print) {
+    sized(out, b"0 nodes", 0, &[0; 1], 0);
+    sized(out, b"2,048 nodes", 2048, &[0; 2048], 2048);
+    sized(out, b"2,049 nodes", 2049, &[0; 2049], 2049);
+    sized(out, b"65,535 nodes", 65535, &[0; 65535], 65535);
+    sized(out, b"potentials one short", 2048, &[0; 2047], 2048);
+    sized(out, b"path one short", 2048, &[0; 2048], 2047);
 }
 
 // So many arcs, with one node and pattern 0.
-fn joined(name: &[u8], ends: &[u16], weights: &[u32]) {
-    loops(name, 1, ends, weights, &[0], &[0], 1);
+fn joined(out: &impl Print, name: &[u8], ends: &[u16], weights: &[u32]) {
+    loops(out, name, 1, ends, weights, &[0], &[0], 1);
 }
 
-pub fn arc_counts() {
-    joined(b"8,192 arcs", &[0; 8192], &[0; 8192]);
-    joined(b"8,193 arcs", &[0; 8193], &[0; 8193]);
-    joined(b"weights one short", &[0; 8192], &[0; 8191]);
+pub fn arc_counts(out: &impl Print) {
+    joined(out, b"8,192 arcs", &[0; 8192], &[0; 8192]);
+    joined(out, b"8,193 arcs", &[0; 8193], &[0; 8193]);
+    joined(out, b"weights one short", &[0; 8192], &[0; 8191]);
 }
 
 // A pattern, with one node and one arc.
-fn turned(name: &[u8], pattern: &[u8]) {
-    loops(name, 1, &[0], &[0], &[0], pattern, 1);
+fn turned(out: &impl Print, name: &[u8], pattern: &[u8]) {
+    loops(out, name, 1, &[0], &[0], &[0], pattern, 1);
 }
 
-pub fn patterns() {
-    turned(b"no entries", b"");
-    turned(b"64 entries", &[1; 64]);
-    turned(b"65 entries", &[1; 65]);
-    turned(b"entry 2", &[0, 1, 2]);
+pub fn patterns(out: &impl Print) {
+    turned(out, b"no entries", b"");
+    turned(out, b"64 entries", &[1; 64]);
+    turned(out, b"65 entries", &[1; 65]);
+    turned(out, b"entry 2", &[0, 1, 2]);
 }

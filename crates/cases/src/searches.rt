@@ -38,7 +38,7 @@ const NODES: usize = MOST_NODES as usize;
 const ARCS: usize = LAST as usize;
 
 // How many first entries of the work lists and of the path list an answer speaks of.
-#[derive(Drop)]
+#[derive(Clone, Copy)]
 struct Counts {
     tables: usize,
     path: usize,
@@ -77,6 +77,7 @@ fn written(a: Answer, count: u16) -> Counts {
 
 // A query over an index: what it answers at a cap and what it leaves.
 pub fn query(
+    out: &impl Print,
     name: &[u8],
     count: u16,
     tails: &[u16],
@@ -122,18 +123,19 @@ pub fn query(
         &mut path,
     );
     let w = written(a, count);
-    show::answer(name, a);
-    show::nodes(b"  path:", &path, w.path);
-    show::labels(b"  start labels:", &start_labels, w.tables);
-    show::nodes(b"  start neighbours:", &start_neighbours, w.tables);
-    show::labels(b"  end labels:", &end_labels, w.tables);
-    show::nodes(b"  end neighbours:", &end_neighbours, w.tables);
-    show::states(b"  states:", &states, w.tables);
-    lines::answer(a, &path);
+    show::answer(out, name, a);
+    show::nodes(out, b"  path:", &path, w.path);
+    show::labels(out, b"  start labels:", &start_labels, w.tables);
+    show::nodes(out, b"  start neighbours:", &start_neighbours, w.tables);
+    show::labels(out, b"  end labels:", &end_labels, w.tables);
+    show::nodes(out, b"  end neighbours:", &end_neighbours, w.tables);
+    show::states(out, b"  states:", &states, w.tables);
+    lines::answer(out, a, &path);
 }
 
 // One case: an index for its arcs, and the query over it.
 fn case(
+    out: &impl Print,
     name: &[u8],
     count: u16,
     tails: &[u16],
@@ -161,6 +163,7 @@ fn case(
         &mut in_begins,
     );
     query(
+        out,
         name,
         count,
         tails,
@@ -180,8 +183,9 @@ fn case(
 }
 
 // A query in district D5.
-fn in_d5(name: &[u8], start: u16, end: u16, pattern: &[u8], cap: u16) {
+fn in_d5(out: &impl Print, name: &[u8], start: u16, end: u16, pattern: &[u8], cap: u16) {
     case(
+        out,
         name,
         D5_NODES,
         &D5_TAILS,
@@ -197,8 +201,9 @@ fn in_d5(name: &[u8], start: u16, end: u16, pattern: &[u8], cap: u16) {
 }
 
 // P5 to P10: two nodes, one arc from 0 to 1, a query from 0 to 1 and pattern 0; h of both nodes, and k, the same for both.
-fn on_one_arc(name: &[u8], weight: u32, first: i32, second: i32, both: i32) {
+fn on_one_arc(out: &impl Print, name: &[u8], weight: u32, first: i32, second: i32, both: i32) {
     case(
+        out,
         name,
         2,
         &[0],
@@ -214,24 +219,38 @@ fn on_one_arc(name: &[u8], weight: u32, first: i32, second: i32, both: i32) {
 }
 
 // P1 to P10.
-fn first_ten() {
-    in_d5(b"P1", 0, 3, &[0, 1], NO_CAP);
-    in_d5(b"P2", 0, 3, &[1], NO_CAP);
-    in_d5(b"P3", 2, 2, &[0, 1], NO_CAP);
-    in_d5(b"P4", 3, 0, &[0, 1], NO_CAP);
-    on_one_arc(b"P5", 1, 1, 0, 0);
-    on_one_arc(b"P6", 1, 2, 0, 0);
-    on_one_arc(b"P7", 1000000, 0, 0, 0);
-    on_one_arc(b"P8", 1000001, 0, 0, 0);
-    on_one_arc(b"P9", 1, -2047000000, -2047000000, -2047000000);
-    on_one_arc(b"P10", 1, -2047000001, 0, 0);
+fn first_ten(out: &impl Print) {
+    in_d5(out, b"P1", 0, 3, &[0, 1], NO_CAP);
+    in_d5(out, b"P2", 0, 3, &[1], NO_CAP);
+    in_d5(out, b"P3", 2, 2, &[0, 1], NO_CAP);
+    in_d5(out, b"P4", 3, 0, &[0, 1], NO_CAP);
+    on_one_arc(out, b"P5", 1, 1, 0, 0);
+    on_one_arc(out, b"P6", 1, 2, 0, 0);
+    on_one_arc(out, b"P7", 1000000, 0, 0, 0);
+    on_one_arc(out, b"P8", 1000001, 0, 0, 0);
+    on_one_arc(out, b"P9", 1, -2047000000, -2047000000, -2047000000);
+    on_one_arc(out, b"P10", 1, -2047000001, 0, 0);
 }
 
 // P1 to P12.
-pub fn p_cases() {
-    first_ten();
-    case(b"P11", 1, &[], &[], &[], &[0], &[0], 0, 0, &[0], NO_CAP);
+pub fn p_cases(out: &impl Print) {
+    first_ten(out);
     case(
+        out,
+        b"P11",
+        1,
+        &[],
+        &[],
+        &[],
+        &[0],
+        &[0],
+        0,
+        0,
+        &[0],
+        NO_CAP,
+    );
+    case(
+        out,
         b"P12",
         2,
         &[0],
@@ -248,18 +267,18 @@ pub fn p_cases() {
 
 // P1 at each cap from 0 to one more than the turns that it takes, P2 at a cap where the excess is 0, P3 and P4 at cap 0, and P4
 // at a cap that its search ends within.
-pub fn caps() {
-    in_d5(b"P1, cap 0", 0, 3, &[0, 1], 0);
-    in_d5(b"P1, cap 1", 0, 3, &[0, 1], 1);
-    in_d5(b"P1, cap 2", 0, 3, &[0, 1], 2);
-    in_d5(b"P1, cap 3", 0, 3, &[0, 1], 3);
-    in_d5(b"P1, cap 4", 0, 3, &[0, 1], 4);
-    in_d5(b"P1, cap 5", 0, 3, &[0, 1], 5);
-    in_d5(b"P1, cap 6", 0, 3, &[0, 1], 6);
-    in_d5(b"P2, cap 4", 0, 3, &[1], 4);
-    in_d5(b"P3, cap 0", 2, 2, &[0, 1], 0);
-    in_d5(b"P4, cap 0", 3, 0, &[0, 1], 0);
-    in_d5(b"P4, cap 1", 3, 0, &[0, 1], 1);
+pub fn caps(out: &impl Print) {
+    in_d5(out, b"P1, cap 0", 0, 3, &[0, 1], 0);
+    in_d5(out, b"P1, cap 1", 0, 3, &[0, 1], 1);
+    in_d5(out, b"P1, cap 2", 0, 3, &[0, 1], 2);
+    in_d5(out, b"P1, cap 3", 0, 3, &[0, 1], 3);
+    in_d5(out, b"P1, cap 4", 0, 3, &[0, 1], 4);
+    in_d5(out, b"P1, cap 5", 0, 3, &[0, 1], 5);
+    in_d5(out, b"P1, cap 6", 0, 3, &[0, 1], 6);
+    in_d5(out, b"P2, cap 4", 0, 3, &[1], 4);
+    in_d5(out, b"P3, cap 0", 2, 2, &[0, 1], 0);
+    in_d5(out, b"P4, cap 0", 3, 0, &[0, 1], 0);
+    in_d5(out, b"P4, cap 1", 3, 0, &[0, 1], 1);
 }
 
 // Nodes in rising order from the first, 0 or 1.
@@ -289,7 +308,7 @@ fn in_order(list: &[u16]) -> usize {
 
 // A chain of as many nodes as there may be, from its first to its last, each arc of the top weight: the largest shortest
 // length. The work lists and the index have just enough room, and the path list one entry more than the path has nodes.
-pub fn chain() {
+pub fn chain(out: &impl Print) {
     let tails = rising(0);
     let heads = rising(1);
     let mut out_arcs = [OLD_NODE; ARCS];
@@ -333,7 +352,11 @@ pub fn chain() {
         &mut states,
         &mut path,
     );
-    show::answer(b"chain of 2,048 nodes", a);
-    show::say(b"  path nodes in rising order: ", in_order(&path) as u64);
-    show::text(b"\n");
+    show::answer(out, b"chain of 2,048 nodes", a);
+    show::say(
+        out,
+        b"  path nodes in rising order: ",
+        in_order(&path) as u64,
+    );
+    show::text(out, b"\n");
 }

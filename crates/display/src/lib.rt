@@ -2,6 +2,8 @@
 // The display hands over the bytes of a district file with one query and the room for the answer, and gets back how many bytes
 // were written. The contract says the room and the count for every file and every room. What the lines say is settled by
 // `district`, byte by byte; here they are gathered, and put into the room if they all fit.
+#![tactic(auto)]
+
 ghost use Rattle.std.specs.Prelude.{◌+◌, ◌≤◌, length};
 ghost use Rattle.index.specs.Index.{index};
 ghost use Rattle.frames.specs.Room.{Placed, Laid};

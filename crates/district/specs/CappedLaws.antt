@@ -8,7 +8,7 @@ use Rattle.network.specs.declared.Cap.TheVariants.{AtMost}
 use Rattle.network.specs.Query.{Query}
 use Rattle.nba.specs.Search.{state_at}
 use Rattle.nba.specs.Result.{path_of, turns_given}
-use Rattle.nba.specs.Why.Capped.{answer_under_lem}
+use Rattle.nba.proofs.Why.Capped.{answer_under_lem}
 use Rattle.frames.specs.AnswerLines.{answer_lines}
 use Rattle.district.specs.File.{work_room, query_lines}
 

@@ -322,7 +322,9 @@ module _ (single : Bool) (first : ℕ) (bytes : List ℕ) where
   unfolding end_verdict
   misplaced_row {n} k (last l (whole h)) = row_line k.before h ∙ (verdict_last single _ _ _ (sym k.its_number ∙ l) ∙ rw k.its_number)
   misplaced_row {n} k (last l (part h r)) =
-      row_end k.before h ∙ (cut_verdict single _ _ _ r ∙ (verdict_last single _ _ Unsound (sym k.its_number ∙ l) ∙ rw k.its_number))
+      row_end k.before h
+      ∙ (cut_verdict single _ (told_after bytes k.before) _ r
+      ∙ (verdict_last single _ (told_after bytes k.before) Unsound (sym k.its_number ∙ l) ∙ rw k.its_number))
   misplaced_row {n} k (not_there h u m) =
       row_line k.before h
       ∙ by_eq (first + k.before) last_line (λ l. verdict_last single _ _ _ l ∙ rw k.its_number)

@@ -19,7 +19,7 @@ use Rattle.network.specs.SoundLaws.{accepted_sound}
 use Rattle.nba.specs.State.{missing, present, State}
 use Rattle.nba.specs.Search.{state_at}
 use Rattle.nba.specs.Result.{path_of, figures_in, excess, refused_or, found_at, answer_to_at, turns_given}
-use Rattle.nba.specs.Why.Theorems.{path_fits_at}
+use Rattle.nba.proofs.Why.Theorems.{path_fits_at}
 use Rattle.frames.specs.AnswerLines.{answer_lines}
 use Rattle.frames.specs.AnswerLaws.{length_refused, length_no_route, length_route, length_provisional, length_undecided}
 use Rattle.nba.specs.Why.ReadLaws.{by_found}

@@ -50,23 +50,23 @@ with_verdict r verdict =
 
 -- ---- steps
 -- what a step that changes no list promises (`Stepped`), whatever the lists are
-pub record SteppedOver (s : File → FileStep) (r : Reader) (t : Taken) (room Room-after : List ℕ) : Type 0 where
-  pub law : (l : Lists) → Kept r l → Stepped (s (file_of r l)) t l l room Room-after
+pub record SteppedOver (s : File → FileStep) (r : Reader) (t : Taken) (room room_after : List ℕ) : Type 0 where
+  pub law : (l : Lists) → Kept r l → Stepped (s (file_of r l)) t l l room room_after
 
 -- the same of a step that changes the line only
-pub record SteppedLine (s : File → FileStep) (r : Reader) (t : Taken) (line line' room Room-after : List ℕ) : Type 0 where
+pub record SteppedLine (s : File → FileStep) (r : Reader) (t : Taken) (line line' room room_after : List ℕ) : Type 0 where
   pub law : (tails heads weights : List ℕ) (ix : Index) (h k : List ℤ) → Kept r (lists line tails heads weights ix h k)
-      → Stepped (s (file_of r (lists line tails heads weights ix h k))) t (lists line tails heads weights ix h k) (lists line' tails heads weights ix h k) room Room-after
+      → Stepped (s (file_of r (lists line tails heads weights ix h k))) t (lists line tails heads weights ix h k) (lists line' tails heads weights ix h k) room room_after
 
 -- the same of a step that changes the arc lists only
-pub record SteppedArcs (s : File → FileStep) (r : Reader) (t : Taken) (tails heads weights tails' heads' weights' room Room-after : List ℕ) : Type 0 where
+pub record SteppedArcs (s : File → FileStep) (r : Reader) (t : Taken) (tails heads weights tails' heads' weights' room room_after : List ℕ) : Type 0 where
   pub law : (line : List ℕ) (ix : Index) (h k : List ℤ) → Kept r (lists line tails heads weights ix h k)
-      → Stepped (s (file_of r (lists line tails heads weights ix h k))) t (lists line tails heads weights ix h k) (lists line tails' heads' weights' ix h k) room Room-after
+      → Stepped (s (file_of r (lists line tails heads weights ix h k))) t (lists line tails heads weights ix h k) (lists line tails' heads' weights' ix h k) room room_after
 
 -- the same of a step that changes the potential lists and the index only
-pub record SteppedPotentials (s : File → FileStep) (r : Reader) (t : Taken) (tails heads weights : List ℕ) (ix ix' : Index) (h k h' k' : List ℤ) (room Room-after : List ℕ) : Type 0 where
+pub record SteppedPotentials (s : File → FileStep) (r : Reader) (t : Taken) (tails heads weights : List ℕ) (ix ix' : Index) (h k h' k' : List ℤ) (room room_after : List ℕ) : Type 0 where
   pub law : (line : List ℕ) → Kept r (lists line tails heads weights ix h k)
-      → Stepped (s (file_of r (lists line tails heads weights ix h k))) t (lists line tails heads weights ix h k) (lists line tails heads weights ix' h' k') room Room-after
+      → Stepped (s (file_of r (lists line tails heads weights ix h k))) t (lists line tails heads weights ix h k) (lists line tails heads weights ix' h' k') room room_after
 
 -- ---- what is known where a frame is taken
 -- a further line can be counted

@@ -41,14 +41,20 @@ record FeedsBetween (whole : List (List ℕ)) (rest : List ℕ) : Type 0 where
 
 feed_between : (whole : List (List ℕ)) (rest : List ℕ) → FeedsBetween whole rest → FeedsBetween ([] ∷ whole) rest
 unfolding without_feed
-feed_between whole rest p = record { in_whole = λ i. elim i [ zero ↦ refl | suc j ↦ p.in_whole j ]; in_rest = p.in_rest }
+feed_between whole rest p = record {
+  in_whole = λ i. elim i as (λ k. without_feed (get_or ([] ∷ whole) k []) ≡ true) [ zero ↦ refl | suc j ↦ p.in_whole j ];
+  in_rest = p.in_rest;
+}
 
 began_between : (b : ℕ) → eqb b line_feed ≡ false → (whole : List (List ℕ)) (rest : List ℕ) → FeedsBetween whole rest
     → FeedsBetween (began_with (b ∷ []) whole rest).whole (began_with (b ∷ []) whole rest).rest
 unfolding without_feed
 began_between b e [] rest p = record { in_whole = λ i. refl; in_rest = rw e p.in_rest }
-began_between b e (line ∷ more) rest p =
-    record { in_whole = λ i. elim i [ zero ↦ rw e (p.in_whole 0) | suc j ↦ p.in_whole (suc j) ]; in_rest = p.in_rest }
+began_between b e (line ∷ more) rest p = record {
+  in_whole = λ i.
+      elim i as (λ k. without_feed (get_or ((b ∷ line) ∷ more) k []) ≡ true) [ zero ↦ rw e (p.in_whole 0) | suc j ↦ p.in_whole (suc j) ];
+  in_rest = p.in_rest;
+}
 
 feeds_between : (bytes : List ℕ) → FeedsBetween (lines_of bytes).whole (lines_of bytes).rest
 unfolding lines_of without_feed

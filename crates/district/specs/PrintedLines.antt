@@ -115,7 +115,7 @@ nothing_none : NoFiles []
 nothing_none = record { each = λ i. empty_none }
 
 one_none : {text : List ℕ} {lines : List (List ℕ)} → NoFile text → NoFiles lines → NoFiles (text ∷ lines)
-one_none {text} {lines} h k = record { each = λ i. elim i [ zero ↦ h | suc j ↦ k.each j ] }
+one_none {text} {lines} h k = record { each = λ i. elim i as (λ n. NoFile (get_or (text ∷ lines) n [])) [ zero ↦ h | suc j ↦ k.each j ] }
 
 append_none : (a b : List (List ℕ)) → NoFiles a → NoFiles b → NoFiles (a ++ b)
 append_none [] b h k = k

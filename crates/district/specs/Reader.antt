@@ -143,11 +143,11 @@ pub record Beyond (r : Reader) (l after : Lists) : Type 0 where
 -- what a step promises: reader and lists stand for the file that the definition says, with no entry beyond it changed; the index
 -- is built with the last potentials of an accepted network, and else left alone; the bytes that the step prints are placed in the
 -- room; and the next step may follow
-pub record Stepped (s : FileStep) (t : Taken) (l after : Lists) (room Room-after : List ℕ) : Type 0 where
+pub record Stepped (s : FileStep) (t : Taken) (l after : Lists) (room room_after : List ℕ) : Type 0 where
   pub file_is : file_of t.reader after ≡ s.file
   pub beyond : Beyond t.reader l after
   pub index_is : after.index ≡ index_kept s.file.told l.index
-  pub room_is : Placed s.printed room Room-after t.written
+  pub room_is : Placed s.printed room room_after t.written
   pub kept : Kept t.reader after
 
 -- how many bytes at the front of some find room in a line that can hold so many more: up to the first line feed

@@ -1,6 +1,8 @@
 // A district file, byte by byte (docs/RULES.md, "Input order"). A small reader goes by value from step to step, and the lists
 // that hold the line and the network are lent to each step and kept between them. A query is answered as soon as its line
 // ends. What a file is answered is defined in specs/File.antt; each step here does what that definition says.
+#![tactic(auto)]
+
 ghost use Rattle.std.specs.Prelude.{◌≡◌, false, ◌≤◌, length};
 ghost use Rattle.index.specs.Index.{index};
 ghost use Rattle.frames.specs.Frame.{most_digits};
@@ -27,7 +29,7 @@ pub const MOST_BYTES: usize = 31 + 3 + 4 * MOST_NODES;
 // Where a file stands: the line that is being read and how many bytes of it there are, whether one query only may stand in it,
 // whether it goes on, what its 01 stated (no nodes while the 01 is owed), how many arcs and potentials were read, what the
 // network itself is refused for (known once its last potentials are read), and whether a query was answered.
-#[derive(Drop)]
+#[derive(Clone, Copy)]
 pub struct Reader {
     pub line: u32,
     pub held: usize,
@@ -42,7 +44,7 @@ pub struct Reader {
 }
 
 // The reader after a step, and how many bytes of the room the step wrote.
-#[derive(Drop)]
+#[derive(Clone, Copy)]
 pub struct Taken {
     pub reader: Reader,
     pub written: usize,

@@ -1,6 +1,8 @@
 // Input lines of district frames, one at a time (docs/RULES.md, "District frames"). A line of upper-case hexadecimal digits is
 // decoded to the frame that it spells. This crate knows digits, fields and single lines; what may follow what is not its matter.
 // A line is taken here without its line feed.
+#![tactic(auto)]
+
 ghost use Rattle.std.specs.Prelude.{◌≡◌, ◌<◌, ◌≤◌, ◌+◌, ◌^◌, length};
 ghost use Rattle.frames.specs.Digits.{value_of, value_table, are_digits, Readable, number_at};
 ghost use Rattle.frames.specs.Signed.{signed_of};
@@ -39,7 +41,7 @@ pub const MOST_DIGITS: usize = CAPPED_DIGITS + MOST_PATTERN;
 
 // What an input line says: one case for each kind, 01, 02, 05 and 03, one for the queries 04 and 07, or no sound frame. A query
 // holds its cap, which a 04 has not, and the length of its pattern; `pattern_of` hands out the entries.
-#[derive(Drop)]
+#[derive(Clone, Copy)]
 pub enum Frame {
     Size {
         nodes: u16,

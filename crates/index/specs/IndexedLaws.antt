@@ -1,15 +1,16 @@
 -- A query over an index that is what its arcs build, in lists that are long enough, is judged as without an index; and one that is
 -- accepted has such an index. Assumes nothing.
-use Rattle.std.specs.Prelude.{◌≡◌, refl, Bool, true, false, ◌||◌}
+use Rattle.std.specs.Prelude.{◌≡◌, refl, Bool, true, false, ◌||◌, List, [], ◌∷◌, ◌++◌}
 use Rattle.std.proofs.Common.{sym, ◌∙◌}
 use Rattle.std.proofs.lemmas.Bool.{not-false}
 use Rattle.network.specs.declared.Lent.{Lent}
-use Rattle.network.specs.declared.Cause.TheVariants.{Room, WrongIndex}
-use Rattle.network.specs.declared.Verdict.TheVariants.{Accepted}
+use Rattle.network.specs.declared.Cause.TheVariants.{BadArc, BadPotential, Inconsistent, Room, WrongIndex}
+use Rattle.network.specs.declared.Verdict.{Verdict}
+use Rattle.network.specs.declared.Verdict.TheVariants.{Accepted, Refused}
 use Rattle.network.specs.CaseSplit.{both_true, neither_true}
-use Rattle.network.specs.Network.{Side, start, end, Network}
+use Rattle.network.specs.Network.{Side, start, end, Network, arc_count}
 use Rattle.network.specs.Query.{Query}
-use Rattle.network.specs.Refusal.{bad_room, first_refusal, list_rows, trip_rows, map_rows, query_verdict}
+use Rattle.network.specs.Refusal.{given_at, lowest, bad_arc, bad_potential, breaks_rule, bad_room, first_refusal, list_rows, trip_rows, map_rows, query_verdict}
 use Rattle.network.specs.RefusalLaws.{rows_accepted, given_accepted}
 use Rattle.index.specs.Index.{Index, way_of, is_built, wrong_index, short_index}
 use Rattle.index.specs.Table.{indexed_rows, indexed_verdict}
@@ -17,6 +18,13 @@ use Rattle.index.specs.Table.{indexed_rows, indexed_verdict}
 or_false : (b : Bool) → (b || false) ≡ b
 or_false true = refl
 or_false false = refl
+
+-- a row that accepts makes no difference
+passed_over : (rows more : List Verdict) → first_refusal (rows ++ (Accepted ∷ more)) ≡ first_refusal (rows ++ more)
+unfolding first_refusal
+passed_over [] more = refl
+passed_over (Accepted ∷ rows) more = passed_over rows more
+passed_over (Refused c ∷ rows) more = refl
 
 -- an index that is not wrong is, each way, what the arcs build
 pub right_built : (g : Network) (ix : Index) → wrong_index g ix ≡ false → (s : Side) → is_built s g (way_of s ix) ≡ true
@@ -28,7 +36,14 @@ module _ (q : Query) (ix : Index) (l : Lent) where
   -- with lists that are long enough and the index that the arcs build, the index makes no difference
   pub indexed_same : short_index q.network ix ≡ false → wrong_index q.network ix ≡ false → indexed_verdict q ix l ≡ query_verdict q l
   unfolding indexed_verdict indexed_rows query_verdict list_rows trip_rows map_rows first_refusal
-  indexed_same long right = rw (long, right, or_false (bad_room q.network.nodes l))
+  indexed_same long right =
+      rw (long, right, or_false (bad_room q.network.nodes l))
+      (passed_over
+      (list_rows q.network q.forward q.backward
+      ++ (trip_rows q.network.nodes q.start q.end q.pattern l ++ (given_at BadArc (lowest (bad_arc q.network) (arc_count q.network)) ∷ [])))
+      (given_at BadPotential (lowest (bad_potential q.forward q.backward) q.network.nodes)
+      ∷ given_at Inconsistent (lowest (breaks_rule q.network q.forward q.backward) (arc_count q.network))
+      ∷ []))
 
   -- an accepted query has an index that is what its arcs build, and lists that are long enough
   pub accepted_right : indexed_verdict q ix l ≡ Accepted → wrong_index q.network ix ≡ false

@@ -1,5 +1,7 @@
 // The index of arcs by node (docs/RULES.md, "The index"), over lists that the caller lends: it is built from the arcs, kept up as
 // an arc is edited, and tested with a query by the whole refusal table. A refusal comes before anything is written.
+#![tactic(auto)]
+
 ghost use Rattle.std.specs.Prelude.{◌≡◌, ◌||◌, ltb, leb, [], ◌∷◌};
 ghost use Rattle.network.specs.Network.{most_weight, network};
 ghost use Rattle.network.specs.Query.{query};

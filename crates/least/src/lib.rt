@@ -1,6 +1,8 @@
 // The least of a list of numbers, kept while single numbers change: a tournament of minima. A lent list stands for the numbers: its
 // last entries are the numbers themselves, and each entry before them is the lesser of the two below it, so that the first entry
 // is the least of all. One number that changes mends the entries above it and no others.
+#![tactic(auto)]
+
 ghost use Rattle.std.specs.Prelude.{◌≡◌, min, length, replicate, set};
 ghost use Rattle.least.specs.Tournament.{Putting, TournamentOf, Tournament, least_of, no_number, numbers_in};
 

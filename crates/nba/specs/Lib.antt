@@ -6,5 +6,5 @@ pub mod Result
 pub mod Demands
 -- The cases (docs/RULES.md, "Cases"), with and without a cap, and readings that go wrong, computed by these definitions.
 pub mod Cases
--- Why the demands are met. Nothing below has to be believed: the checker reads it.
+-- Why the demands are met, as far as proofs/Why rests on it. Nothing below has to be believed: the checker reads it.
 pub mod Why

@@ -1,6 +1,8 @@
 // The nodes that wait for one side of a search: those that have its label and that no side has taken. They are kept in a tournament
 // (crate `least`) with one number for each node, so that the one with the least key is at hand without a look at the others. The
 // number of a node that waits is a code of its key and of itself: numbers compare as keys, and among equal keys as node numbers.
+#![tactic(auto)]
+
 ghost use Rattle.std.specs.Prelude.{◌≡◌, ◌<◌, ◌%◌};
 ghost use Rattle.std.specs.Int.Signed.{mag};
 ghost use Rattle.network.specs.Network.{most_nodes};

@@ -1,5 +1,7 @@
 // One arc gets another near node, and one way of an index becomes what `listing::list_arcs` would make it afresh. Only the
 // entries between the arc's old place and its new one are shifted, and only the begins of the nodes between change.
+#![tactic(auto)]
+
 ghost use Rattle.std.specs.Prelude.{◌≡◌, ◌+◌, ◌<◌, ◌≤◌, length, get_or, set};
 ghost use Rattle.listing.specs.Listing.{Listable, Listed};
 ghost use Rattle.relist.specs.Inner.{ArcMoved, FirstNotBelow, HasBefore, HasPart, HasRoom, insert, without};

@@ -1,6 +1,9 @@
 -- What the code's speaker and its lists stand for, and what each function of the program promises in the words of Talk.
 -- Definitions only; their laws are in SpeakerLaws. Assumes nothing.
-use Rattle.std.specs.Prelude.{◌≡◌, Bool, false, cond, ◌&&◌, List, ℕ, ◌+◌, ◌-◌, ◌≤◌, min, eqb, ltb, ℤ, pos, negsuc, length, take}
+use Rattle.std.specs.Prelude.{◌≡◌, Bool, false, cond, ◌&&◌, List, ℕ, ◌+◌, ◌-◌, ◌≤◌, min, eqb, ltb, ℤ, pos, negsuc, length, take, Result, Ok, Err}
+use Rattle.std.specs.declared.io.Error.{Error}
+use Rattle.std.specs.IoError.{raw_os_error}
+use Rattle.std.specs.Option.{unwrap_or}
 use Rattle.std.proofs.Math.Seq.{slice}
 use Rattle.district.specs.declared.Reader.{Reader}
 use Rattle.district.specs.Reader.{Lists, file_of, Kept, start_reader, most_bytes}
@@ -66,11 +69,29 @@ unfoldable pub unmoved_by : ℤ → Did
 unmoved_by (pos n) = cond (eqb n interrupted_error) Interrupted (cond (eqb n wait_error) WouldWait Failed)
 unmoved_by (negsuc n) = Failed
 
+-- how many bytes a call moved, by its answer: none where that is below 0, and at most as many as there were to move
+abbrev pub clamp_len : ℤ → ℕ → ℕ
+clamp_len (pos n) most = min n most
+clamp_len (negsuc n) most = 0
+
 -- what a call did, by its answer and the number of the error: below 0 it moved nothing; at 0 it did what `none` says; else it is
 -- how many bytes were moved, at most as many as there were to move
 unfoldable pub answer_of : Did → (ℕ → Did) → ℤ → ℤ → ℕ → Did
 answer_of none some (pos n) error most = cond (eqb n 0) none (some (min n most))
 answer_of none some (negsuc n) error most = unmoved_by error
+
+-- the system's number of an error, 0 where it has none
+abbrev pub error_number : Error → ℤ
+error_number e = unwrap_or (raw_os_error e) (pos 0)
+
+-- a call's answer, as the system gives it: how many bytes were moved, or -1, and the number of the error
+abbrev pub moved_of : Result ℕ Error → ℤ
+moved_of (Ok n) = pos n
+moved_of (Err e) = negsuc 0
+
+abbrev pub error_of : Result ℕ Error → ℤ
+error_of (Ok n) = pos 0
+error_of (Err e) = error_number e
 
 -- a read that moved no byte has found the end of the input; a write that moved none is made again
 abbrev pub reading_of : ℤ → ℤ → ℕ → Did
@@ -116,5 +137,5 @@ unfoldable pub looks_on : Reader → ℕ → ℕ → ℕ → ℕ → Bool
 looks_on r from got done written = ltb from got && eqb done written && r.going
 
 -- the speaker is told what the system did
-pub record TellsAs (s : Speaker) (did : Did) (after : Speaker) (room Room-after : List ℕ) : Type 0 where
-  pub law : (l : Lists) (chunk : List ℕ) → Sits s l chunk room → CameWithin did (length chunk) → StandsFor (told (talk_of s l chunk room) (event_of did chunk)) after l chunk Room-after
+pub record TellsAs (s : Speaker) (did : Did) (after : Speaker) (room room_after : List ℕ) : Type 0 where
+  pub law : (l : Lists) (chunk : List ℕ) → Sits s l chunk room → CameWithin did (length chunk) → StandsFor (told (talk_of s l chunk room) (event_of did chunk)) after l chunk room_after

@@ -11,7 +11,6 @@ use Rattle.std.specs.Int.Signed.{lt_z}
 use Rattle.std.proofs.Math.ListN.{length, drop}
 use Rattle.std.proofs.Math.Seq.{slice, slice_empty, slice-cons, length-slice, drop-drop, take-nil}
 use Rattle.std.specs.Int.{w32, w64}
-use Rattle.io.specs.Counts.{clamp_len}
 use Rattle.network.specs.CaseSplit.{cases, by_bool, by_eq, by_lt, both_true, true≢false}
 use Rattle.frames.specs.Room.{laid, Laid, Placed}
 use Rattle.frames.specs.RoomLaws.{placed_laid}
@@ -30,7 +29,7 @@ use Rattle.routeline.specs.declared.Did.TheVariants.{Came, Ended as EndedThere, 
 use Rattle.routeline.specs.declared.Speaker.{Speaker}
 use Rattle.routeline.specs.Talk.{Talk, talk, silence, asks, asks_on, Possible, can_come, can_end, can_go, can_pass, can_fail, look_on, talk_looked, told, talk_after, Seen, seen, seen_after, Talked, begun, then}
 use Rattle.routeline.specs.TalkLaws.{never, empty, look_one, look_fed, look_nothing, look_owing, look_ended, none_left_to_look_at}
-use Rattle.routeline.specs.Speaker.{talk_of, OwedWithin, Sits, StandsFor, speaker_at, start_speaker, event_of, interrupted_error, wait_error, unmoved_by, answer_of, reading_of, writing_of, CameWithin, WentWithin, ReadDid, read_some, read_end, read_interrupted, read_later, read_failed, WriteDid, wrote_some, write_interrupted, write_later, write_failed, AsksAs, Answers, looks_on, TellsAs}
+use Rattle.routeline.specs.Speaker.{talk_of, OwedWithin, Sits, StandsFor, speaker_at, start_speaker, event_of, interrupted_error, wait_error, unmoved_by, clamp_len, answer_of, reading_of, writing_of, CameWithin, WentWithin, ReadDid, read_some, read_end, read_interrupted, read_later, read_failed, WriteDid, wrote_some, write_interrupted, write_later, write_failed, AsksAs, Answers, looks_on, TellsAs}
 
 -- ---- parts of lists
 -- the part from a to b, as it is lent
@@ -286,7 +285,7 @@ module _ (t : Talk) (s : Speaker) (l : Lists) (chunk room : List ℕ) (u : LookU
 
 -- one byte more is looked at
 module _ (t : Talk) (s : Speaker) (l : Lists) (chunk room : List ℕ) (u : LookUnderway t s l chunk room) (on : looks_on s.reader s.from s.got s.done s.written ≡ true)
-    (taken : Taken) (after : Lists) (Room-after : List ℕ) (st : Stepped (take_byte (file_of s.reader l) (get_or chunk s.from 0)) taken l after room Room-after) where
+    (taken : Taken) (after : Lists) (room_after : List ℕ) (st : Stepped (take_byte (file_of s.reader l) (get_or chunk s.from 0)) taken l after room room_after) where
   more : s.from < s.got
   more = (looks_on_more _ _ _ _ _ on).there
 
@@ -299,16 +298,16 @@ module _ (t : Talk) (s : Speaker) (l : Lists) (chunk room : List ℕ) (u : LookU
   short : length (step_at s l chunk).printed ≤ most_bytes
   short = (printed_fits (file_of s.reader l) (get_or chunk s.from 0)).bytes
 
-  pub more_length : length Room-after ≡ length room
-  more_length = laid_length (step_at s l chunk).printed room Room-after taken.written short u.sits.for_answer st.room_is
+  pub more_length : length room_after ≡ length room
+  more_length = laid_length (step_at s l chunk).printed room room_after taken.written short u.sits.for_answer st.room_is
 
-  next_sits : Sits (next_speaker s taken) after chunk Room-after
+  next_sits : Sits (next_speaker s taken) after chunk room_after
   next_sits =
       record {
         kept = st.kept;
         heard_first = omega (arith, more);
         heard_within = u.sits.heard_within;
-        owed_there = record { owed_first = omega arith; owed_within = laid_within (step_at s l chunk).printed room Room-after taken.written short u.sits.for_answer st.room_is };
+        owed_there = record { owed_first = omega arith; owed_within = laid_within (step_at s l chunk).printed room room_after taken.written short u.sits.for_answer st.room_is };
         for_answer = omega (arith, u.sits.for_answer, more_length);
       }
 
@@ -319,11 +318,11 @@ module _ (t : Talk) (s : Speaker) (l : Lists) (chunk room : List ℕ) (u : LookU
       ap (λ (h : List ℕ). look_on s.stage (file_of s.reader l) (slice s.done s.written room) h) (slice-cons s.from s.got chunk 0 more u.sits.heard_within)
       ∙ look_one s.stage (file_of s.reader l) (slice s.done s.written room) (get_or chunk s.from 0) (slice (suc s.from) s.got chunk) none goes
 
-  looked_next : talk_looked (talk_of (next_speaker s taken) after chunk Room-after) ≡ look_on s.stage (step_at s l chunk).file (step_at s l chunk).printed (slice (suc s.from) s.got chunk)
+  looked_next : talk_looked (talk_of (next_speaker s taken) after chunk room_after) ≡ look_on s.stage (step_at s l chunk).file (step_at s l chunk).printed (slice (suc s.from) s.got chunk)
   unfolding talk_of
-  looked_next = rw (st.file_is, laid_part (step_at s l chunk).printed room Room-after taken.written short u.sits.for_answer st.room_is, add-one)
+  looked_next = rw (st.file_is, laid_part (step_at s l chunk).printed room room_after taken.written short u.sits.for_answer st.room_is, add-one)
 
-  pub look_more : LookUnderway t (next_speaker s taken) after chunk Room-after
+  pub look_more : LookUnderway t (next_speaker s taken) after chunk room_after
   look_more = record { sits = next_sits; leads = looked_next ∙ (sym looked_one ∙ u.leads) }
 
 -- where it ends
@@ -356,9 +355,9 @@ module _ (t : Talk) (s : Speaker) (l : Lists) (chunk room : List ℕ) (u : LookU
 
 -- what is told and then looked at is what follows
 pub follows : (s : Speaker) (did : Did) (told_to : Speaker) (l : Lists) (chunk room room_told : List ℕ) → Sits s l chunk room → CameWithin did (length chunk) → TellsAs s did told_to room room_told
-    → (r : Speaker) (after_look : Lists) (Room-after : List ℕ) → StandsFor (talk_looked (talk_of told_to l chunk room_told)) r after_look chunk Room-after
-    → StandsFor (talk_after (talk_of s l chunk room) (event_of did chunk)) r after_look chunk Room-after
-follows s did told_to l chunk room room_told k w t r after_look Room-after v =
+    → (r : Speaker) (after_look : Lists) (room_after : List ℕ) → StandsFor (talk_looked (talk_of told_to l chunk room_told)) r after_look chunk room_after
+    → StandsFor (talk_after (talk_of s l chunk room) (event_of did chunk)) r after_look chunk room_after
+follows s did told_to l chunk room room_told k w t r after_look room_after v =
     record { sits = v.sits; talk_is = v.talk_is ∙ ap talk_looked (t.law l chunk k w).talk_is }
 
 -- ---- the program holds a talk that can come to pass
@@ -463,7 +462,7 @@ module _ (s : Speaker) (l : Lists) (chunk room : List ℕ) (h : Holds s l chunk 
   ready Stop did chunk_after asked goes d = absurd (goes refl)
 
 -- and what follows is again a talk that can come to pass
-pub holds_on : (s : Speaker) (did : Did) (l : Lists) (chunk room : List ℕ) → Ready s did l chunk room → (r : Speaker) (l_after : Lists) (Room-after : List ℕ)
-    → StandsFor (talk_after (talk_of s l chunk room) (event_of did chunk)) r l_after chunk Room-after → Holds r l_after chunk Room-after
-holds_on s did l chunk room y r l_after Room-after v =
+pub holds_on : (s : Speaker) (did : Did) (l : Lists) (chunk room : List ℕ) → Ready s did l chunk room → (r : Speaker) (l_after : Lists) (room_after : List ℕ)
+    → StandsFor (talk_after (talk_of s l chunk room) (event_of did chunk)) r l_after chunk room_after → Holds r l_after chunk room_after
+holds_on s did l chunk room y r l_after room_after v =
     record { what_is_seen = seen_after y.holds.what_is_seen (talk_of s l chunk room) (event_of did chunk); talked = rw v.talk_is (then y.holds.talked y.possible); sits = v.sits }

@@ -3,15 +3,20 @@
 // numbers and lists, each under a contract (specs/Talk.antt): nothing is read while something is owed, and an answer is written
 // before a further byte is looked at. What no contract can reach is small and stands at the end: `pause`, `tell`, `hear`, `say` and
 // `ask_system` as far as they call the system, the words for people, and `main`. The memory is fixed: the lists of `main`.
+#![tactic(auto)]
+
 ghost use Rattle.std.specs.Prelude.{◌≡◌, length};
 ghost use Rattle.std.proofs.Math.Seq.{slice};
 ghost use Rattle.index.specs.Index.{index};
 ghost use Rattle.district.specs.Reader.{lists, Reached};
 ghost use Rattle.routeline.specs.Talk.{talk_after, talk_looked};
-ghost use Rattle.routeline.specs.Speaker.{talk_of, OwedWithin, Sits, StandsFor, start_speaker, event_of, unmoved_by, reading_of, writing_of, CameWithin, WentWithin, ReadDid, WriteDid, AsksAs, Answers, looks_on, TellsAs};
+ghost use Rattle.routeline.specs.Speaker.{talk_of, OwedWithin, Sits, StandsFor, start_speaker, event_of, unmoved_by, error_number, moved_of, error_of, reading_of, writing_of, CameWithin, WentWithin, ReadDid, WriteDid, AsksAs, Answers, looks_on, TellsAs};
 
 use district::Reader;
-use libc::{STDERR_FILENO, STDIN_FILENO, STDOUT_FILENO};
+use std::env::{Env, FillError};
+use std::io::{Cursor, Read, Write};
+use std::time::{Clock, Duration};
+use std::{io, str, thread};
 
 // The entries of the lists that hold a line, the arcs, the potentials, and where each node's arcs begin in the index.
 const DIGITS: usize = frames::MOST_DIGITS;
@@ -25,11 +30,19 @@ const BEGINS: usize = NODES + 1;
 // The bytes of one read, at the most.
 const CHUNK: usize = 16384;
 
+// The system's numbers of the two errors after which a call is made again: it was interrupted, it would have to wait.
+const INTERRUPTED: i32 = 4;
+
+const WOULD_WAIT: i32 = 11;
+
+// The room for the text of an error.
+const REASON: usize = 128;
+
 // The room in which an answer stands until it is written: the bytes of the longest.
 const ROOM: usize = district::MOST_BYTES;
 
 // How far the talk is: the input goes on, it has ended, or a read or a write has failed.
-#[derive(Drop)]
+#[derive(Clone, Copy)]
 enum Stage {
     Listening,
     AllHeard,
@@ -38,7 +51,7 @@ enum Stage {
 
 // Where the talk stands: the reader of the file; the bytes of the chunk that are read and not yet looked at, from `from` up to
 // `got`; the bytes of the room that are not yet written, from `done` up to `written`; and the stage.
-#[derive(Drop)]
+#[derive(Clone, Copy)]
 struct Speaker {
     reader: Reader,
     from: usize,
@@ -49,7 +62,7 @@ struct Speaker {
 }
 
 // What is asked of the system next.
-#[derive(Drop)]
+#[derive(Clone, Copy)]
 enum Ask {
     Write,
     Read,
@@ -58,7 +71,7 @@ enum Ask {
 
 // What the system did: it read so many bytes, found the end of the input, wrote so many bytes, was interrupted, would have had to
 // wait, or failed.
-#[derive(Drop)]
+#[derive(Clone, Copy)]
 enum Did {
     Came(usize),
     Ended,
@@ -119,41 +132,50 @@ fn owed(speaker: Speaker, room: &[u8]) -> &[u8]
 fn unmoved(error: i32) -> Did
     ensures { result ≡ unmoved_by error }
 {
-    if error == libc::EINTR {
+    if error == INTERRUPTED {
         return Did::Interrupted;
     }
-    if error == libc::EAGAIN {
+    if error == WOULD_WAIT {
         return Did::WouldWait;
     }
     Did::Failed
 }
 
-// What a read did that answered this: 0 is the end of the input.
-fn reading(got: isize, error: i32, chunk: &[u8]) -> Did
-    ensures { result ≡ reading_of got error (length chunk.now) }
+// The system's number of an error, 0 where it has none.
+fn number(error: io::Error) -> i32
+    ensures { result ≡ error_number error }
 {
-    if got < 0 {
-        return unmoved(error);
+    error.raw_os_error().unwrap_or(0)
+}
+
+// What a read did that answered this: 0 is the end of the input.
+fn reading(answer: io::Result<usize>, chunk: &[u8]) -> Did
+    ensures { result ≡ reading_of (moved_of answer) (error_of answer) (length chunk.now) }
+{
+    match answer {
+        Err(error) => unmoved(number(error)),
+        Ok(got) => {
+            if got == 0 {
+                return Did::Ended;
+            }
+            Did::Came(got.min(chunk.len()))
+        }
     }
-    if got == 0 {
-        return Did::Ended;
-    }
-    let n = io::count(got, chunk);
-    Did::Came(n)
 }
 
 // What a write did that answered this: one that took nothing is tried again.
-fn writing(put: isize, error: i32, part: &[u8]) -> Did
-    ensures { result ≡ writing_of put error (length part.now) }
+fn writing(answer: io::Result<usize>, part: &[u8]) -> Did
+    ensures { result ≡ writing_of (moved_of answer) (error_of answer) (length part.now) }
 {
-    if put < 0 {
-        return unmoved(error);
+    match answer {
+        Err(error) => unmoved(number(error)),
+        Ok(put) => {
+            if put == 0 {
+                return Did::WouldWait;
+            }
+            Did::Went(put.min(part.len()))
+        }
     }
-    if put == 0 {
-        return Did::WouldWait;
-    }
-    let n = io::count(put, part);
-    Did::Went(n)
 }
 
 // The end of the input: what it prints is owed.
@@ -322,77 +344,103 @@ fn after(
 }
 
 // Waits for a thousandth of a second.
-fn pause() {
-    let asked = libc::types::timespec {
-        tv_sec: 0,
-        tv_nsec: 1000000,
-    };
-    let mut left = libc::types::timespec {
-        tv_sec: 0,
-        tv_nsec: 0,
-    };
-    libc::nanosleep(&asked, &mut left);
+fn pause(rt: &impl Clock) {
+    thread::sleep(rt, Duration::from_millis(1));
+}
+
+// What the text of an error says of the reason: std writes the number of the error after it, in brackets.
+fn reason(text: &[u8]) -> &str {
+    let text = str::from_utf8(text).unwrap_or("");
+    match text.split_once(" (os error ") {
+        Some((reason, _)) => reason,
+        None => text.trim_end_matches('\0'),
+    }
+}
+
+// Says on standard error what failed, a colon and the system's reason.
+fn fail(rt: &impl Eprint, words: &str, error: io::Error) {
+    let mut room = [0u8; REASON];
+    let mut text = Cursor::new(&mut room[..]);
+    let _ = write!(text, "{error}");
+    let _ = eprintln!(rt; "{words}: {}", reason(&room));
 }
 
 // A call that failed is told on standard error, with the system's reason. One that would have had to wait is made again after a
 // pause.
-fn tell(did: Did, words: &[u8]) {
+fn tell<R: Eprint + Clock>(rt: &R, did: Did, words: &str, answer: io::Result<usize>) {
     if let Did::Failed = did {
-        os::fail(words);
+        if let Err(error) = answer {
+            fail(rt, words, error);
+        }
     }
     if let Did::WouldWait = did {
-        pause();
+        pause(rt);
     }
 }
 
 // Reads once.
-fn hear(chunk: &mut [u8]) -> Did
+fn hear<R: Eprint + Clock, I: Read>(rt: &R, input: &mut I, chunk: &mut [u8]) -> Did
     ensures { ReadDid (length chunk.new) result }
 {
-    let got = libc::read(STDIN_FILENO, chunk);
-    let error = os::errno();
-    let did = reading(got, error, chunk);
+    let answer = input.read(chunk);
+    let did = reading(answer, chunk);
     tell(
+        rt,
         did,
-        b"routeline: the file is cut short, standard input cannot be read",
+        "routeline: the file is cut short, standard input cannot be read",
+        answer,
     );
     did
 }
 
 // Writes once.
-fn say(part: &[u8]) -> Did
+fn say<R: Eprint + Clock, O: Write>(rt: &R, output: &mut O, part: &[u8]) -> Did
     ensures { WriteDid (length part.now) result }
 {
-    let put = libc::write(STDOUT_FILENO, part);
-    let error = os::errno();
-    let did = writing(put, error, part);
+    let answer = output.write(part);
+    let did = writing(answer, part);
     tell(
+        rt,
         did,
-        b"routeline: the answers are cut short, standard output cannot be written",
+        "routeline: the answers are cut short, standard output cannot be written",
+        answer,
     );
     did
 }
 
 // Asks the system for what the talk asks. Where that is to stop, nothing happens.
-fn ask_system(ask: Ask, speaker: Speaker, chunk: &mut [u8; CHUNK], room: &[u8; ROOM]) -> Did
+fn ask_system<R: Eprint + Clock, I: Read, O: Write>(
+    rt: &R,
+    input: &mut I,
+    output: &mut O,
+    ask: Ask,
+    speaker: Speaker,
+    chunk: &mut [u8; CHUNK],
+    room: &[u8; ROOM],
+) -> Did
     requires { OwedWithin speaker room.now }
     ensures { Answers ask speaker result chunk.old chunk.new }
 {
     match ask {
         Ask::Write => {
             let part = owed(speaker, room);
-            say(part)
+            say(rt, output, part)
         }
-        Ask::Read => hear(chunk),
+        Ask::Read => hear(rt, input, chunk),
         Ask::Stop => Did::Interrupted,
     }
 }
 
+// Whether the program was given an argument: one after its own name.
+fn has_argument(rt: &impl Env) -> bool {
+    let mut word = [0u8; 1];
+    !matches!(rt.arg(1, &mut word), Err(FillError::NotPresent))
+}
+
 // What the program is and how it is called, for whoever gives it an argument.
-fn explain() {
-    io::write_all(
-        STDERR_FILENO,
-        b"routeline answers route queries: a district file on standard input, its answer lines on standard output.
+fn explain(rt: &impl Eprint) {
+    let _ = rt.eprint(
+        "routeline answers route queries: a district file on standard input, its answer lines on standard output.
 usage: routeline < FILE
 It takes no arguments. README.md says what a file holds and what the answers mean, docs/RULES.md gives the rules.
 ",
@@ -401,11 +449,13 @@ It takes no arguments. README.md says what a file holds and what the answers mea
 
 // Asks until the talk asks to stop. The language wants a bound on every loop: it is more than can be asked in a thousand years,
 // and were it used up, that would be told.
-fn main() {
-    if os::arg_count() > 1 {
-        explain();
+fn main(rt: HostRuntime) {
+    if has_argument(&rt) {
+        explain(&rt);
         return;
     }
+    let mut input = rt.stdin();
+    let mut output = rt.stdout();
     let mut line = [0u8; DIGITS];
     let mut tails = [0u16; ARCS];
     let mut heads = [0u16; ARCS];
@@ -425,7 +475,15 @@ fn main() {
         if let Ask::Stop = ask {
             return;
         }
-        let did = ask_system(ask, speaker, &mut chunk, &room);
+        let did = ask_system(
+            &rt,
+            &mut input,
+            &mut output,
+            ask,
+            speaker,
+            &mut chunk,
+            &room,
+        );
         speaker = after(
             speaker,
             did,
@@ -444,8 +502,5 @@ fn main() {
         );
         left -= 1;
     }
-    io::write_all(
-        STDERR_FILENO,
-        b"routeline: the answers are cut short, the system was asked too often\n",
-    );
+    let _ = eprintln!(&rt; "routeline: the answers are cut short, the system was asked too often");
 }

@@ -24,11 +24,11 @@ use Rattle.nba.specs.Why.ByMark.{look_by_mark, look_each_by_mark, opening_by_mar
 use Rattle.network.specs.Shift.{mag_add}
 use Rattle.network.specs.SoundLaws.{range_fine}
 use Rattle.nba.specs.Why.StateLaws.{both_sides, half_own, half_theirs}
-use Rattle.nba.specs.Why.LeastLaws.{LeastAt, Choice, no_node_lem, least_node, choice_is}
+use Rattle.nba.proofs.Why.LeastLaws.{LeastAt, Choice, no_node_lem, least_node, choice_is}
 use Rattle.nba.specs.Why.MeasureLaws.{shiftable}
 use Rattle.nba.specs.Why.CodeLaws.{goes_on_by_mark, stays_ended_by_mark}
-use Rattle.nba.specs.Why.ByMarkLaws.{same_at}
-use Rattle.nba.specs.Why.EndLaws.{going_few}
+use Rattle.nba.proofs.Why.ByMarkLaws.{same_at}
+use Rattle.nba.proofs.Why.EndLaws.{going_few}
 use Rattle.steps.specs.declared.Candidate.{Candidate}
 use Rattle.steps.specs.Steps.{meant}
 use Rattle.queue.specs.Queue.{QueueOf, BegunQueue, next_in, first_labels, Spacious}

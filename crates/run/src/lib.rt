@@ -2,6 +2,8 @@
 // last turn of a cap, on lists with exactly one entry a node. The pattern says whose turn it is; a turn is made by
 // `turn::side_turn` on the lists of that side, with its own way of the index. The two queues of waiting nodes are lists of the
 // search itself.
+#![tactic(auto)]
+
 ghost use Rattle.std.specs.Prelude.{◌≡◌, length};
 ghost use Rattle.network.specs.Network.{network};
 ghost use Rattle.network.specs.Query.{query};
@@ -20,7 +22,7 @@ const FEW_ENTRIES: usize = 2 * 128 - 1;
 const MOST_ENTRIES: usize = 2 * network::MOST_NODES as usize - 1;
 
 // Where a search stopped, and whether it is over: at its end, or at a cap before it.
-#[derive(Drop)]
+#[derive(Clone, Copy)]
 pub struct Stop {
     pub progress: Progress,
     pub over: bool,

@@ -19,8 +19,8 @@ use Rattle.network.specs.Query.{Query}
 use Rattle.nba.specs.State.{missing, State}
 use Rattle.nba.specs.Search.{state_at}
 use Rattle.nba.specs.Result.{path_through, path_of, figures_in, answer_at, excess_over, excess, unended_at, found_at}
-use Rattle.nba.specs.Why.CodeLaws.{state_at_tabled}
-use Rattle.nba.specs.Why.Theorems.{path_fits_at}
+use Rattle.nba.proofs.Why.TablesKept.{state_at_tabled}
+use Rattle.nba.proofs.Why.Theorems.{path_fits_at}
 use Rattle.network.specs.Front.{at_front}
 use Rattle.index.specs.Index.{Index}
 use Rattle.index.specs.Table.{indexed_verdict}

@@ -14,9 +14,9 @@ use Rattle.network.specs.Query.{Query}
 use Rattle.nba.specs.Search.{state_at}
 use Rattle.nba.specs.Result.{figures_in, refused_or, found_at, answer_to_at}
 use Rattle.nba.specs.Demands.{path_at, IsUndecided, undecided_yet}
-use Rattle.nba.specs.Why.Capped.{honest, decided_stays, never_taken_back, capped_at_nodes, over_is_end}
+use Rattle.nba.proofs.Why.Capped.{honest, decided_stays, never_taken_back, capped_at_nodes, over_is_end}
 use Rattle.nba.specs.Why.ReadLaws.{by_found, provisional_read, Decided, route_decided, none_decided, decided_over}
-use Rattle.nba.specs.Why.Theorems.{demand_3_turns_at, demand_3_opened_at}
+use Rattle.nba.proofs.Why.Theorems.{demand_3_turns_at, demand_3_opened_at}
 use Rattle.index.specs.Index.{Index, short_index, wrong_index}
 use Rattle.index.specs.Table.{indexed_verdict}
 use Rattle.index.specs.IndexedLaws.{indexed_same}
@@ -86,6 +86,8 @@ figures_shown (of_ended of_a_route) (of_ended of_a_route) = refl
 figures_shown (of_ended of_no_route) (of_ended of_no_route) = refl
 figures_shown of_provisional of_provisional = refl
 figures_shown of_undecided of_undecided = refl
+figures_shown of_provisional (of_ended h) = elim h [ ]
+figures_shown of_undecided (of_ended h) = elim h [ ]
 
 undecided_no_refusal : {a : Answer} {c : Cause} → IsUndecided a → a ≡ Refused c → ⊥
 undecided_no_refusal undecided_yet e = let z : ◌≡◌ {A = ℕ} 0 1 = cc in omega arith

@@ -22,11 +22,11 @@ use Rattle.nba.specs.State.{missing, present, label_of, state_of}
 use Rattle.nba.specs.Search.{state_at, end_state}
 use Rattle.nba.specs.Result.{figures_in, answer_at, found, refused_or, answer_to}
 use Rattle.nba.specs.Demands.{path, path_at, with_pattern, SameLengthAndVerdict}
-use Rattle.nba.specs.Why.CodeLaws.{state_at_tabled}
-use Rattle.nba.specs.Why.EndLaws.{route_read}
+use Rattle.nba.proofs.Why.TablesKept.{state_at_tabled}
+use Rattle.nba.proofs.Why.EndLaws.{route_read}
 use Rattle.nba.specs.Why.PathLaws.{joined_walk}
 use Rattle.nba.specs.Why.ReadLaws.{Decided, route_decided, none_decided}
-use Rattle.nba.specs.Why.Theorems.{demand_2, demand_3_turns, demand_3_opened_at, demand_3_bound, demand_3_same}
+use Rattle.nba.proofs.Why.Theorems.{demand_2, demand_3_turns, demand_3_opened_at, demand_3_bound, demand_3_same}
 use Rattle.network.specs.Front.{at_front}
 use Rattle.index.specs.Index.{Index, short_index, wrong_index}
 use Rattle.index.specs.Table.{indexed_verdict, QueryCondition, of_node_count, of_arc_lists, of_potential_lists, of_start_or_end, of_pattern, of_room, of_arc, of_index, of_potential, of_rule}

@@ -1,6 +1,8 @@
 // The route query over lists that the caller lends, with an index of its arcs. It tests the query by the table of docs/RULES.md,
 // "Refusal numbers"; a refusal comes before anything is written. An accepted query is searched as `nba` defines it, turn for turn,
 // on the first entries of the lists, to its end or as far as a cap on its turns. The index is where the arcs of a node are found.
+#![tactic(auto)]
+
 ghost use Rattle.std.specs.Prelude.{◌≡◌, ◌≤◌, length};
 ghost use Rattle.network.specs.Network.{network};
 ghost use Rattle.network.specs.Query.{query as asked};

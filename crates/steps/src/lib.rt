@@ -1,5 +1,7 @@
 // Steps 3, 4 and 6 of a turn (docs/RULES.md, "The search, turn by turn") on bare numbers: a node's key, the two tests by which a
 // node is rejected, and the new floor. They stand by themselves, with no lists, so that a wrong step is refused in seconds.
+#![tactic(auto)]
+
 ghost use Rattle.std.specs.Prelude.{◌≡◌, ◌<◌, ◌^◌, pos, ◌+ℤ◌, ◌-ℤ◌};
 ghost use Rattle.std.specs.Int.Signed.{le_z, mag};
 ghost use Rattle.nba.specs.Search.{floor_after};
@@ -12,7 +14,7 @@ pub const MISSING: u32 = 4294967295;
 pub const UNDECIDED: u8 = 0;
 
 // The node that a side takes next, with its key: the least label plus own potential.
-#[derive(Drop)]
+#[derive(Clone, Copy)]
 pub enum Candidate {
     Nothing,
     Node(u16, i64),

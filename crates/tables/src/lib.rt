@@ -3,6 +3,8 @@
 // figures are counted from the states that it left and the path is written from the neighbours. No turn is made here, so that the
 // turn's own code is about turns alone. Each list has one entry a node, but the path's may be longer. What has two sides is one
 // function: the caller hands over the lists of the side.
+#![tactic(auto)]
+
 ghost use Rattle.std.specs.Prelude.{◌≡◌, ◌+◌, ◌≤◌, ◌<◌, cond, [], ◌∷◌, length, drop, set, replicate};
 ghost use Rattle.std.proofs.lemmas.List.Edits.{sets};
 ghost use Rattle.network.specs.Network.{most_nodes};

@@ -2,6 +2,8 @@
 // here is handed the side's own lists first and the other side's after them, with tails and heads exchanged for the end
 // side and its own way of the index, so that one text serves both sides. Each side has the nodes that wait for it in a queue
 // (crate `queue`): no turn looks at all nodes or at all arcs.
+#![tactic(auto)]
+
 ghost use Rattle.std.specs.Prelude.{◌≡◌, ◌<◌, ◌^◌, length};
 ghost use Rattle.std.specs.Int.Signed.{mag};
 ghost use Rattle.network.specs.Network.{start, network};
@@ -13,7 +15,7 @@ ghost use Rattle.turn.specs.Turn.{Ahead, Matched, Openable, Queues, best_in, nod
 use steps::{Candidate, UNDECIDED};
 
 // The best length so far and the meeting node.
-#[derive(Drop)]
+#[derive(Clone, Copy)]
 pub struct Best {
     pub length: u32,
     pub node: u16,
@@ -143,7 +145,7 @@ fn take_node(
 
 // Where a search stands, seen from one side: the best length and the meeting node, the side's own floor and the other
 // side's, and what each takes next.
-#[derive(Drop)]
+#[derive(Clone, Copy)]
 pub struct Progress {
     pub length: u32,
     pub meeting: u16,

@@ -1,7 +1,7 @@
--- The largest shortest length, 2,047,000,000 (docs/RULES.md, "The network and a query"), is reached: by a chain of 2,048 nodes,
--- from the first to the last, each arc of the top weight. The walk along the chain is that long, and none is shorter: the
--- potential of a node is how far it is from the last, and along a walk a consistent potential falls by no more than the walk's
--- length. No turn is computed. Assumes nothing.
+-- The chain by which the largest shortest length, 2,047,000,000 (docs/RULES.md, "The network and a query"), is reached
+-- (proofs/Why/LongestReached): 2,048 nodes, from the first to the last, each arc of the top weight. The walk along the chain is
+-- that long, and none is shorter: the potential of a node is how far it is from the last, and along a walk a consistent potential
+-- falls by no more than the walk's length. Assumes nothing.
 use Rattle.std.specs.Prelude.{◌≡◌, true, false, List, [], ◌∷◌, ℤ, pos, ◌-ℤ◌, length, get_or, replicate}
 use Rattle.std.proofs.Math.Path.{refl}
 use Rattle.std.proofs.Common.{ap, ◌∙◌}
@@ -25,15 +25,8 @@ use Rattle.network.specs.LowestLaws.{passes_nowhere}
 use Rattle.network.specs.Shift.{up, low_pos, up_pos, up_within}
 use Rattle.network.specs.Given.{Sound}
 use Rattle.network.specs.SoundLaws.{accepted_sound}
-use Rattle.network.specs.CaseSplit.{by_lt}
-use Rattle.nba.specs.State.{missing}
-use Rattle.nba.specs.Search.{end_state}
-use Rattle.nba.specs.Result.{path_of, figures_in, found, answer_to}
-use Rattle.nba.specs.Demands.{most_length, WalkOfLength}
-use Rattle.nba.specs.Why.EndLaws.{route_answered, no_route_answered}
-use Rattle.nba.specs.Why.PathLaws.{joined_walk}
+use Rattle.nba.specs.Demands.{WalkOfLength}
 use Rattle.nba.specs.Why.MeasureLaws.{shiftable}
-use Rattle.nba.specs.Why.Theorems.{demand_2}
 
 -- ---- a chain
 -- n numbers in rising order from the first
@@ -192,15 +185,15 @@ module _ (n : ℕ) (few : n < most_nodes) where
       } in
       walk_is (omega arith) (rw e at (step next (walk_from (suc i) k (omega arith))))
 
-  along_walk : WalkOfLength (along n) (n * most_weight)
+  pub walk_of_chain : WalkOfLength (along n) (n * most_weight)
   unfolding along
-  along_walk = let e : 0 + n ≡ n = omega arith in rw e at (walk_from 0 n (omega arith))
+  walk_of_chain = let e : 0 + n ≡ n = omega arith in rw e at (walk_from 0 n (omega arith))
 
-  along_sound : Sound (along n)
+  pub along_sound : Sound (along n)
   along_sound = accepted_sound (along n) (room_for most_nodes) along_accepted
 
   -- the first node's potential is the whole length, and the last one's is 0
-  along_no_shorter : (l : ℕ) → WalkOfLength (along n) l → n * most_weight ≤ l
+  pub along_no_shorter : (l : ℕ) → WalkOfLength (along n) l → n * most_weight ≤ l
   unfolding along shifted
   along_no_shorter l p =
       omega (
@@ -215,26 +208,3 @@ pub record RouteOfLength (a : Answer) (l : ℕ) : Type 0 where
   pub nodes : ℕ
   pub figures : Figures
   pub answered : a ≡ Route l nodes figures
-
--- the length answered along a chain is the number of its arcs times the top weight
-pub along_answered : (n : ℕ) → n < most_nodes → RouteOfLength (answer_to (along n) (room_for most_nodes)) (n * most_weight)
-unfolding answer_to found
-along_answered n few =
-    let q = along n in
-    let sound = along_sound n few in
-    let d = demand_2 sound in
-    by_lt (end_state q).best missing
-    (λ h. let e = route_answered q (end_state q) h in
-    let above = along_no_shorter n few (end_state q).best (joined_walk (d.real e)) in
-    let below = d.shortest e (n * most_weight) (along_walk n few) in
-    let same : (end_state q).best ≡ n * most_weight = omega arith in
-    record {
-      nodes = length (path_of q (end_state q));
-      figures = figures_in (end_state q).states;
-      answered = rw (along_accepted n few) (e ∙ ap (λ l. Route l (length (path_of q (end_state q))) (figures_in (end_state q).states)) same);
-    })
-    (λ h. absurd (d.no_walk (no_route_answered q (end_state q) h) (n * most_weight) (along_walk n few)))
-
--- the largest shortest length is 2,047,000,000, and the longest chain reaches it
-pub largest_reached : RouteOfLength (answer_to (along (most_nodes - 1)) (room_for most_nodes)) most_length
-largest_reached = along_answered (most_nodes - 1) (omega arith)

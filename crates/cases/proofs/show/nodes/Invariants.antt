@@ -1,0 +1,10 @@
+-- `cases::show::nodes` is safe and ends: each turn leaves one entry less of the list. Assumes nothing.
+use Prim.Native.Nat.{◌-◌, ◌≤◌}
+use lib.ListN.{length}
+use Rattle.cases.proofs.show.nodes.Given as goal
+
+abbrev pub invariant-loop-i : goal.invariant-loop-i
+invariant-loop-i g l = l.i ≤ length l.list
+
+abbrev pub decreases-loop-i : goal.decreases-loop-i
+decreases-loop-i g l = length l.list - l.i

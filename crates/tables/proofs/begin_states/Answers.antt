@@ -1,0 +1,22 @@
+-- `begin_states` meets its contract: before turn i of the loop the first i entries are `undecided` and the others as they
+-- were, so at its end all are. Assumes nothing.
+use Prim.Native.Nat.{◌<◌}
+use mathlib.Core.Path.{refl, ◌∙◌}
+use lib.ListN.{length, length-set}
+use native.Mathlib.Omega.{arith}
+use borrow.Author.Fill.{fill_more}
+use Rattle.nba.specs.State.{undecided}
+use Rattle.tables.specs.TablesLaws.{filled_whole}
+use Rattle.tables.proofs.begin_states.Goals as goal
+
+pub loop-i-init : goal.loop-i-init
+loop-i-init c = (omega arith, refl, refl)
+
+pub loop-i-preserved : goal.loop-i-preserved
+loop-i-preserved c =
+    let h : c.loop-i.i < length c.args.states.now = omega arith in
+    (omega arith, simp length-set c.loop-i.invariant.1, rw c.loop-i.invariant.2 (fill_more c.loop-i.i undecided c.args.states.now h))
+
+pub returns : goal.returns
+returns c =
+    c.loop-i.invariant.2 ∙ filled_whole c.loop-i.i undecided c.args.states.now (omega arith)
