@@ -66,6 +66,11 @@ class Function:
         self.name, self.public, self.clauses = name, public, []
 
 
+def open_braces(text):
+    """How many braces a text opens and does not close; -1 for a clause that has ended, of which the first is not in the text."""
+    return text.count("{") - text.count("}")
+
+
 class Source:
     """A .rt file: its functions, its types with their parts, the types that are public, its constants, the modules that it
     makes public, and the names that its contracts take from specs/, as they are called in this file."""
@@ -74,16 +79,22 @@ class Source:
         self.functions, self.types, self.public_types, self.constants = {}, {}, set(), set()
         self.public_modules = re.findall(r"^pub mod (\w+);", text, re.M)
         self.cited = set()
-        for names in re.findall(r"^ghost use Rattle·[^{;]*\{([^}]*)\};", text, re.M):
-            self.cited.update(name.split(" as ")[-1].strip() for name in names.split(","))
+        for crate, names in re.findall(r"^ghost use Rattle\.(\w+)\.[^{;]*\{([^}]*)\};", text, re.M):
+            if (ROOT / "crates" / crate).is_dir():  # and not one of the kit's libraries
+                self.cited.update(name.split(" as ")[-1].strip() for name in names.split(","))
         function = holder = None
+        clause = None  # the clause that goes on in the next line
         for line in text.splitlines():
             code = re.sub(r"^\s*#\[[^\]]*\]\s*", "", re.sub(r"//.*", "", line))
-            found = re.match(rf"\s*(pub\s+)?(?:extern\s+\"C\"\s+)?fn\s+({NAME})\s*\(", code)
+            if clause and open_braces(clause[2]) >= 0:
+                clause[2] += " " + code.strip()
+                continue
+            clause = None
+            found = re.match(r"\s*(pub\s+)?(?:extern\s+\"C\"\s+)?fn\s+(\w+)\s*(?:<[^(]*>)?\s*\(", code)
             if found:
                 function, holder = Function(found.group(2), bool(found.group(1))), None
                 self.functions[function.name] = function
-            found = re.match(rf"\s*(pub\s+)?(?:struct|enum)\s+({NAME})", code)
+            found = re.match(r"\s*(pub\s+)?(?:struct|enum)\s+(\w+)", code)
             if found:
                 holder, function = found.group(2), None
                 self.types.setdefault(holder, set())
@@ -93,9 +104,10 @@ class Source:
             found = re.match(rf"\s*(?:pub\s+)?const\s+({NAME})\s*:", code)
             if found:
                 self.constants.add(found.group(1))
-            found = re.match(rf"\s*(requires|ensures)\s+(?:({NAME})\s+)?\{{(.*)", code)
+            found = re.match(rf"\s*(requires|ensures)\*?\s+(?:({NAME})\s+)?\{{(.*)", code)
             if found and function:
-                function.clauses.append(found.groups())
+                clause = list(found.groups())
+                function.clauses.append(clause)
             if code.startswith("}"):
                 holder = None
             elif holder:

@@ -1,10 +1,8 @@
-"""Programs that are compiled without a proof, for tests and nothing else: `rt try` compiles what is not proved, and a linker that
-stands in for the kit's keeps what it made.
+"""Programs that are compiled without a proof, for tests and nothing else: `rt try` compiles what is not proved, with tests of
+indexes and sums in the code, and a linker that stands in for the kit's keeps what it made.
 
   unproved.py NAME FOLDER PROGRAM    compiles the program NAME with the files of a folder in its src/, each NAME.txt as NAME.rt,
                                      for every .rt file of the repository belongs to a crate that is proved"""
-import os
-import platform
 import shutil
 import subprocess
 import sys
@@ -32,14 +30,15 @@ def beside(folder, source, *own):
 def kit_that_keeps(program, folder):
     """Makes a kit like the one in use but for its linker, which keeps the first program that it links and fails there."""
     guide = subprocess.run(["rt", "doc"], capture_output=True, text=True, check=True).stdout.strip()
-    kit = Path(guide).parents[1]
-    beside(folder, kit, "on")
-    (folder / "on").mkdir()
-    for part, own in (("", "toolchain"), ("toolchain", "bin"), ("toolchain/bin", "ld.lld")):
-        below = Path("on", platform.machine(), part)
-        beside(folder / below, kit / below, own)
-    linker = folder / below / "ld.lld"
-    linker.write_text(f'#!/bin/sh\n"{kit / below}/ld.lld" "$@" && /bin/cp program "{program}"\nexit 1\n')
+    kit = Path(guide).parent
+    beside(folder, kit, "bin", "toolchain")
+    beside(folder / "bin", kit / "bin", "rt", "rtlib.py")
+    for script in ("rt", "rtlib.py"):  # it finds the kit by where it stands itself
+        shutil.copy(kit / "bin" / script, folder / "bin")
+    beside(folder / "toolchain", kit / "toolchain", "bin")
+    beside(folder / "toolchain/bin", kit / "toolchain/bin", "ld.lld")
+    linker = folder / "toolchain/bin/ld.lld"
+    linker.write_text(f'#!/bin/sh\n"{kit}/toolchain/bin/ld.lld" "$@" && /bin/cp program "{program}"\nexit 1\n')
     linker.chmod(0o755)
 
 
@@ -47,12 +46,11 @@ def compiled(folder, name, change):
     """Compiles a program in an empty folder, once its crate there has been changed, and gives the program's path."""
     program = folder / name
     kit_that_keeps(program, folder / "kit")
-    beside(folder / "crates", ROOT / "crates", name)
-    shutil.copytree(ROOT / "crates" / name, folder / "crates" / name)
+    shutil.copytree(ROOT / "crates", folder / "crates", ignore=shutil.ignore_patterns("out"))
     shutil.copy(ROOT / "crates.txt", folder)
     change(folder / "crates" / name)
     try:
-        done = subprocess.run(["rt", "try", name], cwd=folder, env={**os.environ, "RATTLE_HOME": str(folder / "kit")},
+        done = subprocess.run([folder / "kit/bin/rt", "try"], cwd=folder / "crates" / name, stdin=subprocess.DEVNULL,
                               capture_output=True, text=True, timeout=PATIENCE)
     except subprocess.TimeoutExpired:
         raise Unusable("its compiler does not end") from None

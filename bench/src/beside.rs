@@ -1,6 +1,5 @@
 //! `routeline` beside an earlier version of it, run alternately on the same bytes: a query, a turn, and reading. The two programs
-//! are made alike, so that under an emulator, too, the one can be held against the other; no other time of an emulator says
-//! anything.
+//! are made alike, so that the one can be held against the other.
 
 use crate::road::{Road, Trips};
 use crate::{

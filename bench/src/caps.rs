@@ -1,5 +1,5 @@
 //! What a cap buys: the answers of `routeline` to the benchmark's trips at several caps, beside those without one.
-//! Nothing is timed, so an emulator will do.
+//! Nothing is timed.
 
 use crate::fast;
 use crate::road::{Road, Trips};
@@ -11,7 +11,7 @@ use std::path::Path;
 /// A cap is the nodes divided by one of these.
 const PARTS: [usize; 4] = [16, 8, 4, 2];
 
-/// So many that a file is answered within a minute under an emulator too.
+/// So many that a file is answered soon.
 const TRIPS_A_FILE: usize = 25;
 
 /// What the answers to all trips of a file at one cap came to.

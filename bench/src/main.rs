@@ -21,7 +21,7 @@ bench run [flags]      measure and print Markdown tables
 bench caps [flags]     ask at several caps, measure nothing, and print Markdown tables
 bench beside [flags]   measure two programs alternately, and print Markdown tables
 bench files [flags]    write the files that are timed, for a profile of the program
-  --routeline PATH     the program (default target/bin/routeline under the repository root)
+  --routeline PATH     the program (default crates/routeline/out/routeline under the repository root)
   --before PATH        for `beside`: the program of an earlier version
   --queries N          queries a file (default 300); where times are taken, more if they make few turns
   --out FILE           write the tables there as well, below the line `<!-- tables -->`, `<!-- caps -->` or `<!-- beside -->`
@@ -229,7 +229,7 @@ struct Flags {
 }
 
 fn flags(arguments: &[String]) -> Result<Flags, String> {
-    let mut flags = Flags { routeline: root().join("target/bin/routeline"), before: None, queries: 300, out: None };
+    let mut flags = Flags { routeline: root().join("crates/routeline/out/routeline"), before: None, queries: 300, out: None };
     for pair in arguments.chunks(2) {
         match pair {
             [flag, value] if flag == "--routeline" => flags.routeline = PathBuf::from(value),

@@ -5,8 +5,7 @@
  *
  * Each call runs on memory of its own that is filled with a pattern, and what of the pattern is gone afterwards is what the
  * call took, its return address among it. memcpy and memset stand here and take nothing but their return address. So the
- * figure is that of the archive alone, whatever the C library, and the same on the machine itself and under an emulator. For
- * x86-64, as the archive is.
+ * figure is that of the archive alone, whatever the C library. For x86-64, as the archive is.
  */
 #include "display.h"
 #include "files.h"

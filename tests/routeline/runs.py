@@ -81,15 +81,14 @@ def same(what, got, wanted):
 
 # ---- how the program is run
 class Routeline:
-    """A program that is run: `starter` starts it, `preload` is the setting that loads faults.c (both from .ci/x86), and after
-    `patience` seconds without an answer or an end it counts as one that hangs."""
+    """A program that is run, with the library of faults.c loaded. After `patience` seconds without an answer or an end it counts
+    as one that hangs."""
 
-    def __init__(self, starter, preload, patience):
-        self.starter, self.patience = starter, patience
-        self.preload = dict([preload.split("=", 1)])
+    def __init__(self, program, faults, patience):
+        self.program, self.faults, self.patience = str(program), str(faults), patience
 
     def start(self, command, plan, **files):
-        settings = {**os.environ, "LC_ALL": "C", **self.preload, **plan}
+        settings = {**os.environ, "LC_ALL": "C", "LD_PRELOAD": self.faults, **plan}
         return subprocess.Popen(command, env=settings, stderr=subprocess.PIPE, **files)
 
     def ran(self, data, words=(), shell=None, files=None, **plan):
@@ -99,7 +98,7 @@ class Routeline:
             file, calls = Path(folder, "file"), Path(folder, "calls")
             file.write_text(data, encoding="latin-1")
             calls.touch()
-            command = [*(["sh", "-c", shell, "sh"] if shell else []), self.starter, *words]
+            command = [*(["sh", "-c", shell, "sh"] if shell else []), self.program, *words]
             with open(file, "rb") as stream:
                 given = {"stdin": stream, "stdout": subprocess.PIPE, **(files or {})}
                 process = self.start(command, {"CALLS": str(calls), **plan}, **given)
@@ -128,7 +127,7 @@ class Routeline:
             if unblocked is not None:
                 os.set_blocking((stdin, stdout)[unblocked], False)
             with open(to, "wb", buffering=0) as to, open(by, "rb", buffering=0) as by:
-                with self.start([self.starter], {"CALLS": str(calls)}, stdin=stdin, stdout=stdout) as process:
+                with self.start([self.program], {"CALLS": str(calls)}, stdin=stdin, stdout=stdout) as process:
                     os.close(stdin)
                     os.close(stdout)
                     try:

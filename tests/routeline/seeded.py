@@ -5,7 +5,9 @@ that must find that. A line `# says: ` has the words with which the program must
 The faults here are in what calls the system. One that a contract reaches is a must-fail edit of the crate instead.
 
 Such a program is compiled without a proof (tests/unproved.py). It is for the runs and nothing else. The program without an edit
-is compiled so too: it must pass them."""
+is compiled so too: it must pass them. Here `routeline` may use the kit's C layers, so that a fault can name another descriptor
+or ask for the error of a later call; in the repository it has none of them."""
+import re
 import sys
 from pathlib import Path
 
@@ -45,6 +47,18 @@ def put_in(edit, crate):
     (crate / file).write_text(text.replace(old, new.removeprefix(" ")))
 
 
+def lend_c_layers(crate):
+    """Lists the kit's C layers for a copy of the crate."""
+    listed = crate.parents[1] / "crates.txt"
+    listed.write_text(re.sub(r"^routeline:.*", r"\g<0> libc os", listed.read_text(), flags=re.M))
+
+
 def compiled(folder, edit):
     """Compiles `routeline` in an empty folder, with an edit or, where that is None, as it is, and gives the program's path."""
-    return unproved.compiled(folder, "routeline", lambda crate: put_in(edit, crate) if edit else None)
+
+    def change(crate):
+        lend_c_layers(crate)
+        if edit:
+            put_in(edit, crate)
+
+    return unproved.compiled(folder, "routeline", change)

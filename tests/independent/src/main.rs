@@ -18,7 +18,7 @@ const USAGE: &str = "\
 independent check [flags]     compare routeline (and the display entry) with the independent answers
   --seeds A..B                the seeds (default 0..20000)
   --fresh N                   N fresh seeds, counted from the time
-  --routeline PATH            the program (default target/bin/routeline under the repository root)
+  --routeline PATH            the program (default crates/routeline/out/routeline under the repository root)
   --display PATH              the program made of c/entry.c (default none: the display entry is left out)
   --fault NAME                a deliberate fault in the model, or `all` that show in files; exit code 0 if it is
                               found (README.md lists the names); ends once it was seen in 3 files
@@ -73,7 +73,7 @@ fn root() -> PathBuf {
 fn plan(arguments: &[String]) -> Result<Plan, String> {
     let mut plan = Plan {
         seeds: make::FIXED_SEEDS,
-        routeline: Some(root().join("target/bin/routeline")),
+        routeline: Some(root().join("crates/routeline/out/routeline")),
         with_routeline: true,
         display: None,
         with_display: true,
