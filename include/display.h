@@ -6,9 +6,9 @@
  * room; how much stack it takes is measured. The archive libdisplay.a is for x86-64 programs; it asks for memcpy and memset of
  * the C library and for nothing else.
  *
- * Compile and link a program, or make a shared object, which then exports the function:
- *   cc -std=c99 -Iinclude examples/display.c crates/display/out/libdisplay.a -o display
- *   cc -shared -Wl,-u,display_answer crates/display/out/libdisplay.a -o libdisplay.so
+ * Compile and link a program, or make a shared object, which then exports the function (README.md says how libdisplay.a is made):
+ *   cc -std=c99 -Iinclude examples/display.c libdisplay.a -o display
+ *   cc -shared -Wl,-u,display_answer libdisplay.a -o libdisplay.so
  */
 #ifndef DISPLAY_H
 #define DISPLAY_H

@@ -56,7 +56,7 @@ fn less(floor: i64, potential: i32) -> i64
 // By how much a length is above a number that is not negative; 0 if it is not above it.
 fn above(length: u32, most: i64) -> u32
     requires most_bound { mag most < 2 ^ 41 }
-    requires most_value { le_z (pos 0) most ≡ true }
+    requires most_not_negative { le_z (pos 0) most ≡ true }
     ensures { result ≡ or_zero (pos length -ℤ most) }
 {
     let l = length as i64;

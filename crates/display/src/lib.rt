@@ -1,4 +1,4 @@
-// The entry for the unit's display, which is written in C (docs/RULES.md, "The display"); include/display.h is its header.
+// The answer for the unit's display (docs/RULES.md, "The display"), which is written in C: `display_c` exports it.
 // The display hands over the bytes of a district file with one query and the room for the answer, and gets back how many bytes
 // were written. The contract says the room and the count for every file and every room. What the lines say is settled by
 // `district`, byte by byte; here they are gathered, and put into the room if they all fit.
@@ -87,8 +87,7 @@ fn gather(
 }
 
 // The answer lines of the file, each starting where the line before it ended; 0, and the room unchanged, where they do not fit.
-#[unsafe(no_mangle)]
-pub extern "C" fn display_answer(file: &[u8], room: &mut [u8]) -> usize
+pub fn display_answer(file: &[u8], room: &mut [u8]) -> usize
     ensures { Placed (display_answer file.now) room.old room.new result }
 {
     let mut line = [0u8; frames::MOST_DIGITS];

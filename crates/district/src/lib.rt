@@ -153,7 +153,7 @@ pub fn take_byte(
 // they are, which the reader then counts in `held` too. It stops at a line feed, and where the line is full.
 pub fn hold(reader: Reader, bytes: &[u8], line: &mut [u8]) -> usize
     requires reached { Reached reader }
-    requires most_digits_in_bounds { most_digits ≤ length line.old }
+    requires line_long { most_digits ≤ length line.old }
     ensures { Held reader result bytes.now line.old line.new }
 {
     if !reader.going {

@@ -134,8 +134,8 @@ fn begin_queues(
     start_queue: &mut [u64],
     end_queue: &mut [u64],
 ) -> Progress
-    requires beginning { Beginning (length forward.now) forward.now start start_queue.old }
-    requires beginning_2 { Beginning (length forward.now) backward.now end end_queue.old }
+    requires start_beginning { Beginning (length forward.now) forward.now start start_queue.old }
+    requires end_beginning { Beginning (length forward.now) backward.now end end_queue.old }
     ensures { FirstProgress (length forward.now) forward.now backward.now start end start_queue.new end_queue.new result }
 {
     let first = forward[start as usize];
@@ -181,8 +181,8 @@ fn make_turns(
 ) -> Stop
     requires searchable { Searchable (query (network (length states.old) tails.now heads.now weights.now) forward.now backward.now start end pattern.now) (index out_arcs.now out_begins.now in_arcs.now in_begins.now) }
     requires long { Long (length states.old) start_labels.old start_neighbours.old end_labels.old end_neighbours.old states.old }
-    requires queue_room { QueueRoom (length states.old) start_queue.old }
-    requires queue_room_2 { QueueRoom (length states.old) end_queue.old }
+    requires start_room { QueueRoom (length states.old) start_queue.old }
+    requires end_room { QueueRoom (length states.old) end_queue.old }
     ensures { StoppedAt (query (network (length states.old) tails.now heads.now weights.now) forward.now backward.now start end pattern.now) cap (standing start_labels.new start_neighbours.new end_labels.new end_neighbours.new states.new result.progress) result }
 {
     tables::begin(

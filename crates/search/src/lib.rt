@@ -84,7 +84,7 @@ fn searched(
 ) -> Answer
     requires searchable { Searchable (asked (network (length states.old) tails.now heads.now weights.now) forward.now backward.now start end pattern.now) (index out_arcs.now out_begins.now in_arcs.now in_begins.now) }
     requires long { Long (length states.old) start_labels.old start_neighbours.old end_labels.old end_neighbours.old states.old }
-    requires states_in_bounds { length states.old ≤ length path.old }
+    requires path_long { length states.old ≤ length path.old }
     ensures { SearchedInPlace
         (asked (network (length states.old) tails.now heads.now weights.now) forward.now backward.now start end pattern.now)
         cap

@@ -115,9 +115,9 @@ fn take_node(
     best: Best,
 ) -> Best
     requires openable { Openable near.now far.now weights.now arcs.now begins.now labels.old neighbours.old theirs.now states.old u }
-    requires cases { Matched (length states.old) labels.old own.now theirs.now other.now }
+    requires matched { Matched (length states.old) labels.old own.now theirs.now other.now }
     requires queues { Queues labels.old own.now theirs.now other.now states.old own_queue.old other_queue.old }
-    requires target_in_bounds { (target < length own.now) × (mag floor < 2 ^ 40) × (0 < opened) × (opened < 255) }
+    requires in_range { (target < length own.now) × (mag floor < 2 ^ 40) × (0 < opened) × (opened < 255) }
     ensures taken { took labels.new neighbours.new states.new result ≡ node_taken (network (length labels.old) near.now far.now weights.now) own.now other.now theirs.now u target floor opened (took labels.old neighbours.old states.old best) }
     ensures queued { Queues labels.new own.now theirs.now other.now states.new own_queue.new other_queue.new }
 {
@@ -176,9 +176,9 @@ pub fn side_turn(
     p: Progress,
 ) -> Progress
     requires openable { Openable near.now far.now weights.now arcs.now begins.now labels.old neighbours.old theirs.now states.old u }
-    requires cases { Matched (length states.old) labels.old own.now theirs.now other.now }
+    requires matched { Matched (length states.old) labels.old own.now theirs.now other.now }
     requires queues { Queues labels.old own.now theirs.now other.now states.old own_queue.old other_queue.old }
-    requires target_in_bounds { (target < length own.now) × (mag p.beyond < 2 ^ 40) × (0 < opened) × (opened < 255) × (mag p.floor < 2 ^ 40) }
+    requires in_range { (target < length own.now) × (mag p.beyond < 2 ^ 40) × (0 < opened) × (opened < 255) × (mag p.floor < 2 ^ 40) }
     ensures tables { took labels.new neighbours.new states.new (best_in result) ≡ node_taken (network (length labels.old) near.now far.now weights.now) own.now other.now theirs.now u target p.beyond opened (took labels.old neighbours.old states.old (best_in p)) }
     ensures ahead { Ahead labels.new own.now theirs.now other.now states.new p result }
     ensures queued { Queues labels.new own.now theirs.now other.now states.new own_queue.new other_queue.new }

@@ -25,7 +25,7 @@ overflow_sub-result c =
 left : (c : Else-l-most) →
     Above c.args.length c.args.most
 left c =
-    above_some c.args.length c.args.most c.requires.most_value (rw (
+    above_some c.args.length c.args.most c.requires.most_not_negative (rw (
       unsigned_is c.ranges.length,
       back64 c.args.most (omega (arith, c.requires.most_bound)),
     ) at c.if-l-most.false)

@@ -47,9 +47,9 @@ above-requires-clause-most_bound c =
     (larger_small (2 ^ 41) (pos 0) (c.args.floor -ℤ c.args.h) (omega arith) (less_small c.args.floor c.args.h c.requires.0 c.ranges.h))
     (less_small c.args.beyond c.args.k c.requires.1 c.ranges.k))
 
-pub above-requires-clause-most_value : goal.above-requires-clause-most_value
-above-requires-clause-most_value c =
-    rw (largest_is (goal.at.above-requires-clause-most_value c).After-larger_of-2)
+pub above-requires-clause-most_not_negative : goal.above-requires-clause-most_not_negative
+above-requires-clause-most_not_negative c =
+    rw (largest_is (goal.at.above-requires-clause-most_not_negative c).After-larger_of-2)
     (larger_not_negative (larger (pos 0) (c.args.floor -ℤ c.args.h)) (c.args.beyond -ℤ c.args.k) (larger_not_negative (pos 0) (c.args.floor -ℤ c.args.h) refl))
 
 pub returns : goal.returns

@@ -21,7 +21,7 @@ slice_bounds-hold-end c = omega arith
 pub hold-held-requires : goal.hold-held-requires
 hold-held-requires c =
     let kept = c.loop-i.invariant.kept in
-    record { reached = record { over = _; kept = kept }; most_digits_in_bounds = kept.roomy.for_line }
+    record { reached = record { over = _; kept = kept }; line_long = kept.roomy.for_line }
 
 pub overflow_add-reader : goal.overflow_add-reader
 overflow_add-reader c =

@@ -40,7 +40,7 @@ overflow_add-line c =
 
 pub bounds-line-at : goal.bounds-line-at
 bounds-line-at c =
-    omega (arith, c.if-at-n-ge-MOST_DIGITS.false, c.loop-n.invariant.grown.size, c.requires.most_digits_in_bounds)
+    omega (arith, c.if-at-n-ge-MOST_DIGITS.false, c.loop-n.invariant.grown.size, c.requires.line_long)
 
 pub overflow_add-n : goal.overflow_add-n
 overflow_add-n c =
@@ -52,7 +52,7 @@ loop-n-smaller c =
 
 pub loop-n-preserved : goal.loop-n-preserved
 loop-n-preserved c =
-    hold_more _ _ _ _ _ c.loop-n.invariant c.loop-n-test.true c.if-byte-eq-LINE_FEED.false c.if-at-n-ge-MOST_DIGITS.false c.requires.most_digits_in_bounds
+    hold_more _ _ _ _ _ c.loop-n.invariant c.loop-n-test.true c.if-byte-eq-LINE_FEED.false c.if-at-n-ge-MOST_DIGITS.false c.requires.line_long
 
 pub shape_of-line : goal.shape_of-line
 shape_of-line c = c.loop-n.invariant.grown.size

@@ -32,7 +32,7 @@ ends_in : (c : In-loop-a) →
     × (length c.args.backward.now ≡ length c.args.forward.now)
 ends_in c =
     let sized = c.requires.sized in
-    (c.requires.by_index c.loop-a.a (omega arith), c.requires.by_index_2 c.loop-a.a (omega arith), sized.few_nodes, sized.backward_long)
+    (c.requires.tails_in c.loop-a.a (omega arith), c.requires.heads_in c.loop-a.a (omega arith), sized.few_nodes, sized.backward_long)
 
 pub offset_bounds-forward-u : goal.offset_bounds-forward-u
 offset_bounds-forward-u c =

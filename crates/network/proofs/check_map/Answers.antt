@@ -25,8 +25,8 @@ check_consistency-requires c =
     let accepted = sym c.check_each_arc-arcs.ensures ∙ c.in-Accepted.is in
     record {
       sized = rw (sym long) at c.requires;
-      by_index = (λ a b. rw long (arcs_in g accepted start a b));
-      by_index_2 = (λ a b. rw long (arcs_in g accepted end a b));
+      tails_in = (λ a b. rw long (arcs_in g accepted start a b));
+      heads_in = (λ a b. rw long (arcs_in g accepted end a b));
     }
 
 pub returns : goal.returns

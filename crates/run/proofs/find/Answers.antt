@@ -20,8 +20,8 @@ make_turns-requires c =
     record {
       searchable = c.requires.searchable;
       long = c.requires.long;
-      queue_room = room;
-      queue_room_2 = room;
+      start_room = room;
+      end_room = room;
     }
 
 pub shape_of-start_labels-then-room-le-FEW_ENTRIES : goal.shape_of-start_labels-then-room-le-FEW_ENTRIES
@@ -62,8 +62,8 @@ make_turns-requires-2 c =
     record {
       searchable = c.requires.searchable;
       long = c.requires.long;
-      queue_room = room;
-      queue_room_2 = room;
+      start_room = room;
+      end_room = room;
     }
 
 pub shape_of-start_labels : goal.shape_of-start_labels

@@ -26,8 +26,8 @@ begin-requires c =
 
 pub begin_queues-p-requires : goal.begin_queues-p-requires
 begin_queues-p-requires c =
-    let all = sides_beginning c.requires.searchable.sound c.requires.queue_room c.requires.queue_room_2 in
-    record { beginning = all.0; beginning_2 = all.1 }
+    let all = sides_beginning c.requires.searchable.sound c.requires.start_room c.requires.end_room in
+    record { start_beginning = all.0; end_beginning = all.1 }
 
 pub shape_of-start_labels-then-start-end : goal.shape_of-start_labels-then-start-end
 shape_of-start_labels-then-start-end c =
@@ -114,8 +114,8 @@ as_lent c =
       c.turns.invariant.2.long.theirs_long ∙ same ∙ sym c.requires.long.theirs_long,
       c.turns.invariant.2.long.beyond_long ∙ same ∙ sym c.requires.long.beyond_long,
       same,
-      queue_kept c.turns.invariant.2.queued.mine same c.requires.queue_room,
-      queue_kept c.turns.invariant.2.queued.yours same c.requires.queue_room_2,
+      queue_kept c.turns.invariant.2.queued.mine same c.requires.start_room,
+      queue_kept c.turns.invariant.2.queued.yours same c.requires.end_room,
     )
 
 pub shape_of-start_labels-in-Ended : goal.shape_of-start_labels-in-Ended

@@ -16,9 +16,9 @@ pub side_turn-requires : goal.side_turn-requires
 side_turn-requires c =
     record {
       openable = side_openable c.requires.searchable c.requires.long start c.args.a (taken_least c.requires.searchable.sound start _ c.requires.taking.start_takes).inside;
-      cases = side_matched c.requires.searchable c.requires.long start;
+      matched = side_matched c.requires.searchable c.requires.long start;
       queues = c.requires.queues;
-      target_in_bounds = (omega (arith, c.requires.searchable.sound.source_in end, c.requires.searchable.sound.sized.forward_long), c.requires.taking.floors.beyond, omega arith, omega arith, c.requires.taking.floors.floor);
+      in_range = (omega (arith, c.requires.searchable.sound.source_in end, c.requires.searchable.sound.sized.forward_long), c.requires.taking.floors.beyond, omega arith, omega arith, c.requires.taking.floors.floor);
     }
 
 pub shape_of-start_labels-then-pattern-at-eq0 : goal.shape_of-start_labels-then-pattern-at-eq0
@@ -57,9 +57,9 @@ side_turn-after-requires c =
     let long = long_swapped c.requires.long in
     record {
       openable = side_openable c.requires.searchable long end c.args.b (taken_least c.requires.searchable.sound end _ c.requires.taking.end_takes).inside;
-      cases = side_matched c.requires.searchable long end;
+      matched = side_matched c.requires.searchable long end;
       queues = queues_swapped c.requires.queues;
-      target_in_bounds = rw c.swapped-there.ensures ((omega (arith, c.requires.searchable.sound.source_in start, c.requires.searchable.sound.sized.backward_long), c.requires.taking.floors.floor, omega arith, omega arith, c.requires.taking.floors.beyond));
+      in_range = rw c.swapped-there.ensures ((omega (arith, c.requires.searchable.sound.source_in start, c.requires.searchable.sound.sized.backward_long), c.requires.taking.floors.floor, omega arith, omega arith, c.requires.taking.floors.beyond));
     }
 
 pub shape_of-start_labels : goal.shape_of-start_labels

@@ -82,7 +82,7 @@ searched-requires c =
         right = accepted_right (asked (goal.at.searched-requires c).Start) (over (goal.at.searched-requires c).Start) (lengths l) c.requires;
       });
       long = rw (length-take-le c.args.nodes c.args.states.now e.for_states) (cut_long l e);
-      states_in_bounds = rw (length-take-le c.args.nodes c.args.states.now e.for_states) (e.for_path);
+      path_long = rw (length-take-le c.args.nodes c.args.states.now e.for_states) (e.for_path);
     }
 
 pub shape_of-start_labels : goal.shape_of-start_labels

@@ -7,7 +7,7 @@ use Rattle.search.proofs.searched.Goals as goal
 
 pub answered-requires : goal.answered-requires
 answered-requires c =
-    readable c.requires.searchable.sound c.find-stop.ensures c.requires.states_in_bounds
+    readable c.requires.searchable.sound c.find-stop.ensures c.requires.path_long
 
 pub shape_of-start_labels : goal.shape_of-start_labels
 shape_of-start_labels c =

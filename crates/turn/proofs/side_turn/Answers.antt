@@ -11,12 +11,12 @@ use Rattle.turn.proofs.side_turn.Goals as goal
 
 pub take_node-best-requires : goal.take_node-best-requires
 take_node-best-requires c =
-    let k = c.requires.target_in_bounds in
+    let k = c.requires.in_range in
     record {
       openable = c.requires.openable;
-      cases = c.requires.cases;
+      matched = c.requires.matched;
       queues = c.requires.queues;
-      target_in_bounds = (k.0, back_small c.args.p.beyond k.1, k.2, k.3);
+      in_range = (k.0, back_small c.args.p.beyond k.1, k.2, k.3);
     }
 
 pub next_node-mine-requires : goal.next_node-mine-requires
@@ -49,14 +49,14 @@ shape_of-other_queue c =
 
 pub returns : goal.returns
 returns c =
-    let e = back64 c.args.p.beyond (omega (arith, c.requires.target_in_bounds.1)) in
-    let few = rw (sym c.states-1.given) at c.requires.cases.few in
+    let e = back64 c.args.p.beyond (omega (arith, c.requires.in_range.1)) in
+    let few = rw (sym c.states-1.given) at c.requires.matched.few in
     record {
       tables = taken_beyond _ _ _ _ _ _ _ _ e c.take_node-best.ensures.taken;
       ahead = record {
-        mine = c.next_node-mine.ensures ∙ next_is_least _ _ _ c.requires.cases.own_small few c.take_node-best.ensures.queued.mine;
-        yours = c.next_node-yours.ensures ∙ next_is_least _ _ _ c.requires.cases.other_small few c.take_node-best.ensures.queued.yours;
-        floor = back64 _ c.floor_after-floor.type_inv ∙ c.floor_after-floor.ensures ∙ ap (λ z. floor_after z (meant c.next_node-mine.result)) (back64 c.args.p.floor (omega (arith, c.requires.target_in_bounds.4)));
+        mine = c.next_node-mine.ensures ∙ next_is_least _ _ _ c.requires.matched.own_small few c.take_node-best.ensures.queued.mine;
+        yours = c.next_node-yours.ensures ∙ next_is_least _ _ _ c.requires.matched.other_small few c.take_node-best.ensures.queued.yours;
+        floor = back64 _ c.floor_after-floor.type_inv ∙ c.floor_after-floor.ensures ∙ ap (λ z. floor_after z (meant c.next_node-mine.result)) (back64 c.args.p.floor (omega (arith, c.requires.in_range.4)));
         beyond = e;
       };
       queued = c.take_node-best.ensures.queued;

@@ -57,8 +57,8 @@ open_node-requires c =
         states_long = simp length-set c.requires.openable.states_long;
         node_in = c.requires.openable.node_in;
       };
-      own_len = simp length-set c.requires.cases.own_long;
-      queue_of = (neither_waits _ _ (within c.requires.openable.node_in (sym c.requires.openable.states_long)) c.requires.target_in_bounds.2 c.leave.ensures c.leave-2.ensures c.requires.queues).mine;
+      own_len = simp length-set c.requires.matched.own_long;
+      queue_of = (neither_waits _ _ (within c.requires.openable.node_in (sym c.requires.openable.states_long)) c.requires.in_range.2 c.leave.ensures c.leave-2.ensures c.requires.queues).mine;
     }
 
 pub shape_of-labels : goal.shape_of-labels
@@ -86,6 +86,6 @@ returns c =
       taken = taken_opens _ _ _ _ _ _ _ _ _ _ _ _ (tested (goal.at.returns c).After-reject ∙ c.if-reject.false) c.open_node.ensures.looked;
       queued = record {
         mine = c.open_node.ensures.queued;
-        yours = (neither_waits _ _ (within c.requires.openable.node_in (sym c.requires.openable.states_long)) c.requires.target_in_bounds.2 c.leave.ensures c.leave-2.ensures c.requires.queues).yours;
+        yours = (neither_waits _ _ (within c.requires.openable.node_in (sym c.requires.openable.states_long)) c.requires.in_range.2 c.leave.ensures c.leave-2.ensures c.requires.queues).yours;
       };
     }

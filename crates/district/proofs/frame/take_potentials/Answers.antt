@@ -1,22 +1,14 @@
 -- `frame::take_potentials` meets its contract: a 03 of the next node puts its potentials after those counted. Assumes nothing.
-use mathlib.Core.Path.{◌≡◌, ap}
-use Prim.Native.Nat.{◌<◌, ◌^◌}
+use mathlib.Core.Path.{ap}
 use lib.IntN.{ℤ}
 use lib.ListN.{set, length-set}
-use lib.Signed.{mag}
-use mir.Syntax.{w32}
-use mir.Val.{to_z, of_z}
-use mir.Facts.{to_z-of_z}
 use native.Mathlib.Omega.{arith}
 use Rattle.district.specs.Reader.{file_of}
 use Rattle.district.specs.ReaderLaws.{over_as, over_potentials, as_roomy}
 use Rattle.district.specs.TakenLaws.{grown_one, read_next, indexable_next, potentials_taken, other_node}
 use Rattle.district.proofs.OtherFrames.{no_potentials}
+use Rattle.network.proofs.SignedLocals.{back32}
 use Rattle.district.proofs.frame.take_potentials.Goals as goal
-
--- a signed local holds bits: what is read of them is the number
-back32 : (z : ℤ) → mag z < 2 ^ 31 → to_z w32 (of_z w32 z) ≡ z
-back32 z h = to_z-of_z {w = w32} (record { sfits = h })
 
 pub returns-in_default : goal.returns-in_default
 returns-in_default c =
