@@ -1,10 +1,5 @@
 -- A text laid after a text: the second writer is lent the room from where the first one ended. Assumes nothing.
-use mathlib.Core.Path.{◌≡◌, refl, sym, ap, subst, ◌∙◌}
-use mathlib.Core.List.{List, [], ◌++◌, append-nil}
-use Prim.Native.Nat.{ℕ, ◌+◌, ◌-◌, ◌≤◌}
-use native.Mathlib.Omega.{arith}
-use lib.ListN.{length, take, drop, length-append, length-drop}
-use lib.Seq.{take_at, drop_at}
+use Rattle.std.proofs.Common.{◌≡◌, refl, sym, ap, subst, ◌∙◌, List, [], ◌++◌, ℕ, ◌+◌, ◌-◌, ◌≤◌, length, take, drop, append-nil, length-append, length-drop, take_at, drop_at, arith}
 use Rattle.frames.specs.Room.{laid, Laid}
 use Rattle.frames.specs.RoomLaws.{Underway, underway_more, underway_end}
 

@@ -3,113 +3,131 @@
 #![tactic(auto)]
 
 ghost use Rattle.std.specs.Prelude.{◌≡◌, ◌<◌, ◌≤◌, ◌+◌, ◌++◌, length, take};
+ghost use Rattle.std.specs.List.{sum_by};
 ghost use Rattle.network.specs.Answer.{number_of, place_of};
 ghost use Rattle.frames.specs.Digits.{digit_of, digits_of};
 ghost use Rattle.frames.specs.Room.{laid, Laid, Placed};
-ghost use Rattle.frames.specs.AnswerLines.{line_of, nodes_line, path_line, answer_line, answer_lines};
+ghost use Rattle.frames.specs.AnswerLines.{path_line, answer_lines};
+ghost use Rattle.answers.specs.Fields.{width_of, number_held, itself, four_digits, line_by, line_with};
 
-use network::{Answer, Cause, Figures};
+use network::{Answer, Cause};
 
 // The sixteen output digits.
 const DIGITS: [u8; 16] = *b"0123456789ABCDEF";
 
 const LINE_FEED: u8 = 10;
 
-// A route's line: its kind, the widths of its fields with its kind's first, and its bytes with the line feed.
-const ROUTE_KIND: u32 = 0x81;
-
-const ROUTE_WIDTHS: [usize; 7] = [2, 8, 4, 4, 4, 4, 4];
-
-const ROUTE_BYTES: usize = 2 + 8 + 4 + 4 + 4 + 4 + 4 + 1;
-
-// A path's line: its kind, the digits of a node, and the bytes of kind and line feed.
-const PATH_KIND: u32 = 0x82;
-
+// The digits of a node, and the bytes that a path's line has before its nodes and after them: its kind and the line feed.
 const NODE_DIGITS: usize = 4;
 
 const PATH_BYTES: usize = 2 + 1;
 
-// The line of "no route": as a route's.
-const NO_ROUTE_KIND: u32 = 0x80;
+// What a line says, as its first field.
+#[derive(Clone, Copy)]
+enum Kind {
+    NoRoute = 0x80,
+    Route = 0x81,
+    Path = 0x82,
+    Provisional = 0x84,
+    Undecided = 0x85,
+    Refusal = 0xFF,
+}
 
-const NO_ROUTE_WIDTHS: [usize; 5] = [2, 4, 4, 4, 4];
+// A field of a line: a number and the digits that it is written with. A kind has two digits, as has a refusal's number; a count
+// and a node have four; a length and a place have eight.
+#[derive(Clone, Copy)]
+enum Field {
+    Two(u8),
+    Four(u16),
+    Eight(u32),
+}
 
-const NO_ROUTE_BYTES: usize = 2 + 4 + 4 + 4 + 4 + 1;
+impl Field {
+    // How many digits a field has.
+    fn digits(self) -> usize
+        ensures { result ≡ width_of self }
+    {
+        match self {
+            Field::Two(_) => 2,
+            Field::Four(_) => 4,
+            Field::Eight(_) => 8,
+        }
+    }
 
-// A provisional route's line: as a route's.
-const PROVISIONAL_KIND: u32 = 0x84;
+    // The number of a field.
+    fn number(self) -> u32
+        ensures { result ≡ number_held self }
+    {
+        match self {
+            Field::Two(n) => u32::from(n),
+            Field::Four(n) => u32::from(n),
+            Field::Eight(n) => n,
+        }
+    }
+}
 
-const PROVISIONAL_WIDTHS: [usize; 3] = [2, 8, 8];
+// What a line holds one of after another. A trait and no `Into<Field>`: its ghost member is what the contract of a line speaks of.
+trait Spelled: Copy {
+    ghost use Rattle.answers.specs.declared.Field.{Field};
 
-const PROVISIONAL_BYTES: usize = 2 + 8 + 8 + 1;
+    ghost spells: { Self → Field };
 
-// The line of an undecided query: as a route's.
-const UNDECIDED_KIND: u32 = 0x85;
+    // The field that it is written as.
+    fn field(self) -> Field
+        ensures { result ≡ spells self };
+}
 
-const UNDECIDED_WIDTHS: [usize; 2] = [2, 4];
+impl Spelled for Field {
+    ghost spells = { itself };
 
-const UNDECIDED_BYTES: usize = 2 + 4 + 1;
+    fn field(self) -> Field {
+        self
+    }
+}
 
-// A refusal's line: as a route's.
-const REFUSAL_KIND: u32 = 0xFF;
+// A node of a path.
+impl Spelled for u16 {
+    ghost spells = { four_digits };
 
-const REFUSAL_WIDTHS: [usize; 3] = [2, 2, 8];
-
-const REFUSAL_BYTES: usize = 2 + 2 + 8 + 1;
+    fn field(self) -> Field {
+        Field::Four(self)
+    }
+}
 
 // The digit of a number below 16.
 fn digit(n: u8) -> u8
     requires { n < 16 }
     ensures { result ≡ digit_of n }
 {
-    DIGITS[n as usize]
+    DIGITS[usize::from(n)]
 }
 
-// The lowest digits of a number, highest first, at the front of the room.
-fn write_field(room: &mut [u8], n: u32, digits: usize)
-    requires { digits ≤ length room.old }
-    ensures { room.new ≡ laid (digits_of digits n) room.old }
+// The lowest digits of a field's number, highest first, at the front of the room.
+fn write_field(room: &mut [u8], field: Field)
+    requires { width_of field ≤ length room.old }
+    ensures { room.new ≡ laid (digits_of (width_of field) (number_held field)) room.old }
 {
-    let mut i = digits;
-    let mut rest = n;
-    while i > 0 {
-        i -= 1;
+    let mut rest = field.number();
+    // An index: a walk over the room's own bytes from the back was tried, and the proof did not learn what it wrote there.
+    for i in (0..field.digits()).rev() {
         room[i] = digit((rest % 16) as u8);
         rest /= 16;
     }
 }
 
-// A line: a field for each value, each where the one before it ended, and a line feed.
-fn write_line(room: &mut [u8], widths: &[usize], values: &[u32]) -> usize
-    requires { (length widths.now ≡ length values.now) × (length (line_of widths.now values.now) ≤ length room.old) }
-    ensures { Laid (line_of widths.now values.now) room.old room.new result }
+// A line: a field for each item, each where the one before it ended, and a line feed.
+fn write_line<T: Spelled>(room: &mut [u8], items: &[T]) -> usize
+    requires { length (line_by T.spells items.now) ≤ length room.old }
+    ensures { Laid (line_by T.spells items.now) room.old room.new result }
 {
     let mut at: usize = 0;
-    let mut i: usize = 0;
-    while i < widths.len() {
-        let digits = widths[i];
-        write_field(&mut room[at..], values[i], digits);
-        at += digits;
-        i += 1;
+    for item in items {
+        let field = item.field();
+        write_field(&mut room[at..], field);
+        at += field.digits();
     }
     room[at] = LINE_FEED;
     at + 1
-}
-
-// The nodes of a path, four digits a node, and a line feed.
-fn write_nodes(room: &mut [u8], path: &[u16]) -> usize
-    requires { length (nodes_line path.now) ≤ length room.old }
-    ensures { Laid (nodes_line path.now) room.old room.new result }
-{
-    let mut end: usize = 0;
-    let mut i: usize = 0;
-    while i < path.len() {
-        write_field(&mut room[end..], path[i] as u32, NODE_DIGITS);
-        end += NODE_DIGITS;
-        i += 1;
-    }
-    room[end] = LINE_FEED;
-    end + 1
 }
 
 // A path's line: its kind, 82, and its nodes.
@@ -117,70 +135,61 @@ fn write_path(room: &mut [u8], path: &[u16]) -> usize
     requires { length (path_line path.now) ≤ length room.old }
     ensures { Laid (path_line path.now) room.old room.new result }
 {
-    write_field(room, PATH_KIND, 2);
+    write_field(room, Field::Two(Kind::Path as u8));
     let at: usize = 2;
-    let more = write_nodes(&mut room[at..], path);
+    let more = write_line(&mut room[at..], path);
     at + more
 }
 
-// A single line where it fits, `bytes` being its length with the line feed; else 0, and the room stays as it was.
-fn place_line(room: &mut [u8], widths: &[usize], values: &[u32], bytes: usize) -> usize
-    requires { (length widths.now ≡ length values.now) × (length (line_of widths.now values.now) ≡ bytes) }
-    ensures { Placed (line_of widths.now values.now) room.old room.new result }
+// How many digits these fields have.
+fn digits_of_all(fields: &[Field]) -> usize
+    requires { length fields.now < 16 }
+    ensures { result ≡ sum_by width_of fields.now }
 {
-    if room.len() < bytes {
-        return 0;
-    }
-    write_line(room, widths, values)
+    fields.iter().map(|field| field.digits()).sum()
 }
 
-// A line and a path's line, where both fit; else 0, and the room stays as it was. The path's line starts where the first
-// ended. `bytes` is the length of both without the path's nodes.
-fn place_route(
-    room: &mut [u8],
-    widths: &[usize],
-    values: &[u32],
-    bytes: usize,
-    path: &[u16],
-) -> usize
-    requires { (length widths.now ≡ length values.now) × (length (line_of widths.now values.now) + 3 ≡ bytes) }
-    ensures { Placed (line_of widths.now values.now ++ path_line path.now) room.old room.new result }
+// How many bytes the line of these fields has, its line feed among them.
+#[tactic(auto, using(crate::proofs::LineSteps::digits_fit, crate::proofs::LineSteps::length_fields))]
+fn line_bytes(fields: &[Field]) -> usize
+    requires { length fields.now < 16 }
+    ensures { result ≡ length (line_with fields.now) }
 {
-    if room.len() < bytes {
-        return 0;
-    }
-    if (room.len() - bytes) / NODE_DIGITS < path.len() {
-        return 0;
-    }
-    let at = write_line(room, widths, values);
-    let more = write_path(&mut room[at..], path);
-    at + more
+    digits_of_all(fields) + 1
 }
 
-// The same with the path that an answer shows: the first entries of the path list, as many as it has nodes, or all of them
+// A single line where it fits; else 0, and the room stays as it was.
+fn place_line(room: &mut [u8], fields: &[Field]) -> usize
+    requires { length fields.now < 16 }
+    ensures { Placed (line_with fields.now) room.old room.new result }
+{
+    if room.len() < line_bytes(fields) {
+        return 0;
+    }
+    write_line(room, fields)
+}
+
+// A line and the line of the path that an answer shows, where both fit; else 0, and the room stays as it was. The path's line
+// starts where the first ended. The path shown is the first entries of the path list, as many as it has nodes, or all of them
 // where there are fewer.
-fn place_with_path(
-    room: &mut [u8],
-    widths: &[usize],
-    values: &[u32],
-    bytes: usize,
-    nodes: u16,
-    path: &[u16],
-) -> usize
-    requires { (length widths.now ≡ length values.now) × (length (line_of widths.now values.now) + 3 ≡ bytes) }
-    ensures { Placed (line_of widths.now values.now ++ path_line (take nodes path.now)) room.old room.new result }
+fn place_route(room: &mut [u8], fields: &[Field], nodes: u16, path: &[u16]) -> usize
+    requires { length fields.now < 16 }
+    ensures { Placed (line_with fields.now ++ path_line (take nodes path.now)) room.old room.new result }
 {
-    let n = nodes as usize;
-    if n < path.len() {
-        return place_route(room, widths, values, bytes, &path[..n]);
+    let shown = &path[..usize::from(nodes).min(path.len())];
+    if room.len() < line_bytes(fields) + PATH_BYTES + NODE_DIGITS * shown.len() {
+        return 0;
     }
-    place_route(room, widths, values, bytes, path)
+    let at = write_line(room, fields);
+    let more = write_path(&mut room[at..], shown);
+    at + more
 }
 
-// The number of a refusal: its row in docs/RULES.md, "Refusal numbers".
-fn cause_number(cause: Cause) -> u32
+// The number of a refusal: its row in docs/RULES.md, "Refusal numbers". A cause has a place too, so neither is its conversion.
+fn cause_number(cause: Cause) -> u8
     ensures { result ≡ number_of cause }
 {
+    // A match, since an enum whose cases hold an arc, a node or a line cannot carry numbers of its own.
     match cause {
         Cause::NodeCount => 1,
         Cause::ArcLists => 2,
@@ -203,97 +212,23 @@ fn cause_place(cause: Cause) -> u32
     ensures { result ≡ place_of cause }
 {
     match cause {
-        Cause::NodeCount => 0,
-        Cause::ArcLists => 0,
-        Cause::PotentialLists => 0,
-        Cause::StartOrEnd => 0,
-        Cause::Pattern => 0,
-        Cause::Room => 0,
-        Cause::BadArc(arc) => arc as u32,
-        Cause::BadPotential(node) => node as u32,
-        Cause::Inconsistent(arc) => arc as u32,
-        Cause::UnsoundLine(line) => line,
-        Cause::MisplacedLine(line) => line,
-        Cause::NoSuchArc(number) => number as u32,
-        Cause::WrongIndex => 0,
+        Cause::BadArc(arc) | Cause::Inconsistent(arc) => u32::from(arc),
+        Cause::BadPotential(node) => u32::from(node),
+        Cause::NoSuchArc(number) => u32::from(number),
+        Cause::UnsoundLine(line) | Cause::MisplacedLine(line) => line,
+        Cause::NodeCount
+        | Cause::ArcLists
+        | Cause::PotentialLists
+        | Cause::StartOrEnd
+        | Cause::Pattern
+        | Cause::Room
+        | Cause::WrongIndex => 0,
     }
 }
 
-// The lines of a route of this total length.
-fn write_route(room: &mut [u8], total: u32, nodes: u16, figures: Figures, path: &[u16]) -> usize
-    ensures { Placed (answer_lines (Answer.Route total nodes figures) path.now) room.old room.new result }
-{
-    let widths = ROUTE_WIDTHS;
-    let values: [u32; 7] = [
-        ROUTE_KIND,
-        total,
-        nodes as u32,
-        figures.turns as u32,
-        figures.opened_by_start as u32,
-        figures.opened_by_end as u32,
-        figures.rejected as u32,
-    ];
-    place_with_path(
-        room,
-        &widths,
-        &values,
-        ROUTE_BYTES + PATH_BYTES,
-        nodes,
-        path,
-    )
-}
-
-// The lines of a provisional route of this total length, whatever its figures: they are not shown.
-fn write_provisional(room: &mut [u8], total: u32, excess: u32, nodes: u16, path: &[u16]) -> usize
-    ensures { (figures : Figures) → Placed (answer_lines (Answer.Provisional total excess nodes figures) path.now) room.old room.new result }
-{
-    let widths = PROVISIONAL_WIDTHS;
-    let values: [u32; 3] = [PROVISIONAL_KIND, total, excess];
-    place_with_path(
-        room,
-        &widths,
-        &values,
-        PROVISIONAL_BYTES + PATH_BYTES,
-        nodes,
-        path,
-    )
-}
-
-// The line of "no route".
-fn write_no_route(room: &mut [u8], figures: Figures) -> usize
-    ensures { Placed (answer_line (Answer.NoRoute figures)) room.old room.new result }
-{
-    let widths = NO_ROUTE_WIDTHS;
-    let values: [u32; 5] = [
-        NO_ROUTE_KIND,
-        figures.turns as u32,
-        figures.opened_by_start as u32,
-        figures.opened_by_end as u32,
-        figures.rejected as u32,
-    ];
-    place_line(room, &widths, &values, NO_ROUTE_BYTES)
-}
-
-// The line of an undecided query.
-fn write_undecided(room: &mut [u8], figures: Figures) -> usize
-    ensures { Placed (answer_line (Answer.Undecided figures)) room.old room.new result }
-{
-    let widths = UNDECIDED_WIDTHS;
-    let values: [u32; 2] = [UNDECIDED_KIND, figures.turns as u32];
-    place_line(room, &widths, &values, UNDECIDED_BYTES)
-}
-
-// The line of a refusal.
-fn write_refusal(room: &mut [u8], cause: Cause) -> usize
-    ensures { Placed (answer_line (Answer.Refused cause)) room.old room.new result }
-{
-    let widths = REFUSAL_WIDTHS;
-    let values: [u32; 3] = [REFUSAL_KIND, cause_number(cause), cause_place(cause)];
-    place_line(room, &widths, &values, REFUSAL_BYTES)
-}
-
 // The lines of an answer at the front of the room, each starting where the one before it ended, and how many bytes they
-// are. Where they do not all fit, the count is 0 and the room stays as it was.
+// are. Where they do not all fit, the count is 0 and the room stays as it was: docs/RULES.md promises that count, so it is no
+// option.
 pub fn write_answer(room: &mut [u8], answer: Answer, path: &[u16]) -> usize
     ensures { Placed (answer_lines answer path.now) room.old room.new result }
 {
@@ -302,15 +237,59 @@ pub fn write_answer(room: &mut [u8], answer: Answer, path: &[u16]) -> usize
             length,
             nodes,
             figures,
-        } => write_route(room, length, nodes, figures, path),
-        Answer::NoRoute(figures) => write_no_route(room, figures),
-        Answer::Refused(cause) => write_refusal(room, cause),
+        } => place_route(
+            room,
+            &[
+                Field::Two(Kind::Route as u8),
+                Field::Eight(length),
+                Field::Four(nodes),
+                Field::Four(figures.turns),
+                Field::Four(figures.opened_by_start),
+                Field::Four(figures.opened_by_end),
+                Field::Four(figures.rejected),
+            ],
+            nodes,
+            path,
+        ),
+        Answer::NoRoute(figures) => place_line(
+            room,
+            &[
+                Field::Two(Kind::NoRoute as u8),
+                Field::Four(figures.turns),
+                Field::Four(figures.opened_by_start),
+                Field::Four(figures.opened_by_end),
+                Field::Four(figures.rejected),
+            ],
+        ),
+        Answer::Refused(cause) => place_line(
+            room,
+            &[
+                Field::Two(Kind::Refusal as u8),
+                Field::Two(cause_number(cause)),
+                Field::Eight(cause_place(cause)),
+            ],
+        ),
         Answer::Provisional {
             length,
             excess,
             nodes,
-            figures: _,
-        } => write_provisional(room, length, excess, nodes, path),
-        Answer::Undecided(figures) => write_undecided(room, figures),
+            ..
+        } => place_route(
+            room,
+            &[
+                Field::Two(Kind::Provisional as u8),
+                Field::Eight(length),
+                Field::Eight(excess),
+            ],
+            nodes,
+            path,
+        ),
+        Answer::Undecided(figures) => place_line(
+            room,
+            &[
+                Field::Two(Kind::Undecided as u8),
+                Field::Four(figures.turns),
+            ],
+        ),
     }
 }

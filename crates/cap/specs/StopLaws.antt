@@ -1,6 +1,6 @@
 -- What each stop says of the candidates and the turns; and each public function's contract admits a single answer. Assumes nothing.
-use Rattle.std.specs.Prelude.{◌≡◌, refl, Bool, true, false, cond, ◌||◌, ℕ, ◌<◌, ◌≤◌, ltb, ℤ, ◌-ℤ◌}
-use Rattle.std.proofs.Common.{sym, ◌∙◌, arith, ltb-true, ltb-false}
+use Rattle.std.specs.Prelude.{◌≡◌, refl, Bool, true, false, cond, ◌||◌, ℕ, ◌<◌, ◌≤◌, ltb, ℤ, ◌-ℤ◌, Option}
+use Rattle.std.proofs.Common.{sym, ◌∙◌, ltb-true, ltb-false}
 use Rattle.network.specs.declared.Answer.{Answer}
 use Rattle.network.specs.declared.Figures.{Figures}
 use Rattle.nba.specs.Result.{excess_over}
@@ -35,15 +35,15 @@ by_turns {P} turns cap {x} {y} {r} e f g = by (ltb turns cap) refl e
 
 pub turn_says : (c d : Chosen) (turns cap : ℕ) {a b : ℕ} → course_of c d turns cap ≡ Turn a b → Turning c d turns cap a b
 unfolding course_of
-turn_says none d turns cap e = let z : ◌≡◌ {A = ℕ} 0 1 = cc in absurd (omega arith)
-turn_says (node v k) none turns cap e = let z : ◌≡◌ {A = ℕ} 0 1 = cc in absurd (omega arith)
+turn_says none d turns cap e = cc
+turn_says (node v k) none turns cap e = cc
 turn_says (node v k) (node w j) turns cap {a} {b} e =
     by_turns turns cap e
     (λ h i.
     let mine : v ≡ a = cc in
     let yours : w ≡ b = cc in
     record { own_key = k; own_takes = rw mine; other_key = j; other_takes = rw yours; turns_left = h })
-    (λ h i. let z : ◌≡◌ {A = ℕ} 0 1 = cc in absurd (omega arith))
+    (λ h i. cc)
 
 pub ended_says : (c d : Chosen) (turns cap : ℕ) → course_of c d turns cap ≡ Ended → (is_none c || is_none d) ≡ true
 unfolding course_of
@@ -51,21 +51,21 @@ ended_says none d turns cap e = refl
 ended_says (node v k) none turns cap e = refl
 ended_says (node v k) (node w j) turns cap e =
     by_turns turns cap e
-    (λ h i. let z : ◌≡◌ {A = ℕ} 0 1 = cc in absurd (omega arith))
-    (λ h i. let z : ◌≡◌ {A = ℕ} 0 1 = cc in absurd (omega arith))
+    (λ h i. cc)
+    (λ h i. cc)
 
 pub used_up_says : (c d : Chosen) (turns cap : ℕ) → course_of c d turns cap ≡ UsedUp → OutOfTurns c d turns cap
 unfolding course_of
-used_up_says none d turns cap e = let z : ◌≡◌ {A = ℕ} 0 1 = cc in absurd (omega arith)
-used_up_says (node v k) none turns cap e = let z : ◌≡◌ {A = ℕ} 0 1 = cc in absurd (omega arith)
+used_up_says none d turns cap e = cc
+used_up_says (node v k) none turns cap e = cc
 used_up_says (node v k) (node w j) turns cap e =
     by_turns turns cap e
-    (λ h i. let z : ◌≡◌ {A = ℕ} 0 1 = cc in absurd (omega arith))
+    (λ h i. cc)
     (λ h i. record { both = refl; no_turns = h })
 
 -- ---- one answer
 -- `next`
-pub next_one_answer : (own other : Candidate) (turns cap : ℕ) (r s : Course)
+pub next_one_answer : (own other : Option Candidate) (turns cap : ℕ) (r s : Course)
     → r ≡ course_of (meant own) (meant other) turns cap → s ≡ course_of (meant own) (meant other) turns cap → r ≡ s
 next_one_answer own other turns cap r s e f = e ∙ sym f
 

@@ -3,9 +3,9 @@
 // always suffices.
 #![tactic(auto)]
 
-ghost use Rattle.std.specs.Prelude.{◌≡◌, true, ◌<◌, ◌^◌, pos, ◌-ℤ◌};
-ghost use Rattle.std.specs.Int.Signed.{le_z, mag};
-ghost use Rattle.nba.specs.Result.{excess_over, larger, or_zero};
+ghost use Rattle.std.specs.Prelude.{◌≡◌, ◌<◌, ◌^◌, pos, ◌-ℤ◌, ◌≤ℤ◌};
+ghost use Rattle.std.specs.Int.Signed.{mag};
+ghost use Rattle.nba.specs.Result.{excess_over, or_zero};
 ghost use Rattle.steps.specs.Steps.{meant};
 ghost use Rattle.cap.specs.Stop.{course_of, with_length, without_length};
 
@@ -22,48 +22,26 @@ pub enum Course {
 }
 
 // Step 2 after so many turns. Whether the search has ended is asked first, so it is asked after the last turn of the cap too.
-pub fn next(own: Candidate, other: Candidate, turns: usize, cap: usize) -> Course
+#[tactic(auto, unfolding(crate::specs::Stop::course_of))]
+pub fn next(own: Option<Candidate>, other: Option<Candidate>, turns: usize, cap: usize) -> Course
     ensures { result ≡ course_of (meant own) (meant other) turns cap }
 {
-    let Candidate::Node(a, _) = own else {
-        return Course::Ended;
-    };
-    let Candidate::Node(b, _) = other else {
+    let (Some(a), Some(b)) = (own, other) else {
         return Course::Ended;
     };
     if turns < cap {
-        Course::Turn(a, b)
+        Course::Turn(a.node, b.node)
     } else {
         Course::UsedUp
     }
 }
 
-// The larger of two numbers.
-fn larger_of(a: i64, b: i64) -> i64
-    ensures { result ≡ larger a b }
-{
-    if a <= b { b } else { a }
-}
-
-// A floor less a potential, exact in 64 bits.
-fn less(floor: i64, potential: i32) -> i64
-    requires { mag floor < 2 ^ 40 }
-    ensures { result ≡ floor -ℤ potential }
-{
-    floor - potential as i64
-}
-
 // By how much a length is above a number that is not negative; 0 if it is not above it.
 fn above(length: u32, most: i64) -> u32
-    requires most_bound { mag most < 2 ^ 41 }
-    requires most_not_negative { le_z (pos 0) most ≡ true }
+    requires { pos 0 ≤ℤ most }
     ensures { result ≡ or_zero (pos length -ℤ most) }
 {
-    let l = length as i64;
-    if l <= most {
-        return 0;
-    }
-    (l - most) as u32
+    (i64::from(length) - most).max(0) as u32
 }
 
 // The excess of a best length: `floor` is the start side's floor and `h` its potential of the end, `beyond` the end side's floor
@@ -72,13 +50,14 @@ pub fn excess(length: u32, floor: i64, h: i32, beyond: i64, k: i32) -> u32
     requires { (mag floor < 2 ^ 40) × (mag beyond < 2 ^ 40) }
     ensures { result ≡ excess_over length (floor -ℤ h) (beyond -ℤ k) }
 {
-    above(
-        length,
-        larger_of(larger_of(0, less(floor, h)), less(beyond, k)),
-    )
+    let mine = floor - i64::from(h);
+    let theirs = beyond - i64::from(k);
+    above(length, mine.max(theirs).max(0))
 }
 
-// The answer with a best length: the route, or where the search has not ended a provisional one.
+// The answer with a best length: the route, or where the search has not ended a provisional one. Whether it has ended is a yes or
+// no, since the rest is the same either way.
+#[tactic(auto, unfolding(crate::specs::Stop::with_length))]
 pub fn with_length(over: bool, length: u32, excess: u32, nodes: u16, figures: Figures) -> Answer
     ensures { result ≡ with_length over length excess nodes figures }
 {
@@ -99,6 +78,7 @@ pub fn with_length(over: bool, length: u32, excess: u32, nodes: u16, figures: Fi
 }
 
 // The answer with no best length: no route, or where the search has not ended undecided.
+#[tactic(auto, unfolding(crate::specs::Stop::without_length))]
 pub fn without_length(over: bool, figures: Figures) -> Answer
     ensures { result ≡ without_length over figures }
 {

@@ -1,69 +1,63 @@
 // Lines of district frames (docs/RULES.md, "District frames"): input lines in words, and the answer lines of a query.
 use crate::show;
 use frames::Frame;
-use network::{Answer, Cap};
+use network::Answer;
 
 // The bytes of the longest answer in district D5: a route's line, and a path's with all five nodes.
 const ROOM: usize = 31 + 3 + 4 * 5;
 
 // The answer lines of a query, as `routeline` prints them.
-pub fn answer(out: &impl Print, a: Answer, path: &[u16]) {
+#[tactic(auto, unfolding(frames::specs::Room::counted))]
+pub fn answer(out: &impl Print, answer: Answer, path: &[u16]) {
     let mut room = [0u8; ROOM];
-    let n = answers::write_answer(&mut room, a, path);
-    show::text(out, &room[..n]);
+    let n = answers::write_answer(&mut room, answer, path);
+    let _ = out.write_all(&room[..n]);
 }
 
 // The entries of a query line's pattern.
+#[tactic(auto, unfolding(frames::specs::Room::counted))]
 fn pattern(out: &impl Print, line: &[u8]) {
     let mut entries = [0u8; frames::MOST_PATTERN];
     let n = frames::pattern(line, &mut entries);
-    show::states(out, b", pattern", &entries[..n], n);
+    show::list(out, ", pattern", &entries[..n], n);
 }
 
-fn arc(out: &impl Print, words: &[u8], tail: u16, head: u16, weight: u32) {
-    show::say(out, words, tail as u64);
-    show::say(out, b" to ", head as u64);
-    show::say(out, b", weight ", weight as u64);
-    show::text(out, b"\n");
-}
-
-// The kind of a query, with its cap if it has one.
-fn query(out: &impl Print, cap: Cap) {
-    match cap {
-        Cap::Uncapped => show::text(out, b"04 query"),
-        Cap::AtMost(turns) => show::say(out, b"07 query, cap ", turns as u64),
-    }
+// A query line, with its cap if it has one.
+fn query(out: &impl Print, line: &[u8], start: u16, end: u16, cap: Option<u16>) {
+    let _ = match cap {
+        None => print!(out; "04 query: {start} to {end}"),
+        Some(turns) => print!(out; "07 query, cap {turns}: {start} to {end}"),
+    };
+    pattern(out, line);
 }
 
 // The frame that a line spells, in words.
 fn line(out: &impl Print, bytes: &[u8]) {
-    match frames::decode(bytes) {
-        Frame::Size { nodes, arcs } => {
-            show::say(out, b"01 size: ", nodes as u64);
-            show::say(out, b" nodes, ", arcs as u64);
-            show::text(out, b" arcs\n");
+    let Some(frame) = frames::decode(bytes) else {
+        let _ = println!(out; "no sound frame");
+        return;
+    };
+    let _ = match frame {
+        Frame::Size { nodes, arcs } => println!(out; "01 size: {nodes} nodes, {arcs} arcs"),
+        Frame::Arc { tail, head, weight } => {
+            println!(out; "02 arc: {tail} to {head}, weight {weight}")
         }
-        Frame::Arc { tail, head, weight } => arc(out, b"02 arc: ", tail, head, weight),
-        Frame::TwoWay { tail, head, weight } => arc(out, b"05 two-way link: ", tail, head, weight),
+        Frame::TwoWay { tail, head, weight } => {
+            println!(out; "05 two-way link: {tail} to {head}, weight {weight}")
+        }
         Frame::Potentials { node, h, k } => {
-            show::say(out, b"03 potentials: node ", node as u64);
-            show::say_signed(out, b", h ", h);
-            show::say_signed(out, b", k ", k);
-            show::text(out, b"\n");
+            println!(out; "03 potentials: node {node}, h {h}, k {k}")
         }
         Frame::Query {
             start,
             end,
             cap,
-            entries: _,
+            ..
         } => {
-            query(out, cap);
-            show::say(out, b": ", start as u64);
-            show::say(out, b" to ", end as u64);
-            pattern(out, bytes);
+            query(out, bytes, start, end, cap);
+            Ok(())
         }
-        Frame::Unsound => show::text(out, b"no sound frame\n"),
-    }
+    };
 }
 
 // The input of docs/RULES.md, "District D5".

@@ -2,8 +2,8 @@
 -- what each adds, which refusal comes first, and what the end of input means. The file is read one byte at a time, so it does
 -- not matter in what pieces the bytes come. Lines has the same file in a shorter reading, line by line, and LinesLaws proves that
 -- both print the same. Definitions only; their laws are in FileLaws. Assumes nothing.
-use Rattle.std.specs.Prelude.{Bool, true, false, cond, not, ◌&&◌, ◌||◌, List, [], ◌∷◌, ◌++◌, map, ℕ, ◌+◌, ◌-◌, eqb, ltb, leb, ℤ, length}
-use Rattle.network.specs.declared.Cap.{Cap}
+use Rattle.std.specs.Prelude.{Bool, true, false, cond, not, ◌&&◌, ◌||◌, List, [], ◌∷◌, ◌++◌, map, ℕ, ◌+◌, ◌-◌, eqb, ltb, leb, ℤ, length, Option, None, Some}
+use Rattle.network.specs.Cap.{Cap}
 use Rattle.network.specs.declared.Lent.{Lent}
 use Rattle.network.specs.declared.Cause.{Cause}
 use Rattle.network.specs.declared.Cause.TheVariants.{NodeCount, ArcLists, UnsoundLine, MisplacedLine}
@@ -14,7 +14,7 @@ use Rattle.network.specs.Query.{Query, query}
 use Rattle.nba.specs.Search.{state_at}
 use Rattle.nba.specs.Result.{path_of, answer_under, turns_given}
 use Rattle.frames.specs.declared.Frame.{Frame}
-use Rattle.frames.specs.declared.Frame.TheVariants.{Size, Arc, TwoWay, Potentials, Query as QueryFrame, Unsound}
+use Rattle.frames.specs.declared.Frame.TheVariants.{Size, Arc, TwoWay, Potentials, Query as QueryFrame}
 use Rattle.frames.specs.Frame.{most_digits, frame_of, pattern_of}
 use Rattle.frames.specs.AnswerLines.{line_feed, answer_lines}
 
@@ -78,15 +78,11 @@ taken f told printed =
     step (record { told = told; line = f.line + 1; held = []; single = f.single; going = f.going }) printed
 
 -- a frame that is not taken is 10 where it is no sound frame, and 11 where it is one that may not stand there
-abbrev pub wrong_cause : Frame → ℕ → Cause
-wrong_cause Unsound line = UnsoundLine line
-wrong_cause (Size n m) line = MisplacedLine line
-wrong_cause (Arc t h w) line = MisplacedLine line
-wrong_cause (TwoWay t h w) line = MisplacedLine line
-wrong_cause (Potentials v h k) line = MisplacedLine line
-wrong_cause (QueryFrame s e c n) line = MisplacedLine line
+abbrev pub wrong_cause : Option Frame → ℕ → Cause
+wrong_cause None line = UnsoundLine line
+wrong_cause (Some g) line = MisplacedLine line
 
-abbrev pub wrong : File → Frame → FileStep
+abbrev pub wrong : File → Option Frame → FileStep
 wrong f g = refused f (wrong_cause g f.line)
 
 -- ---- 01
@@ -105,15 +101,15 @@ with_size t n m =
     }
 
 -- where a 01 is owed: a bad node count is 1, a bad arc count is 2
-unfoldable pub take_size : File → Frame → FileStep
-take_size f (Size n m) =
+unfoldable pub take_size : File → Option Frame → FileStep
+take_size f (Some (Size n m)) =
     cond (eqb n 0 || ltb most_nodes n) (refused f NodeCount)
     (cond (ltb most_arcs m) (refused f ArcLists) (taken f (with_size f.told n m) []))
-take_size f (Arc t h w) = wrong f (Arc t h w)
-take_size f (TwoWay t h w) = wrong f (TwoWay t h w)
-take_size f (Potentials v h k) = wrong f (Potentials v h k)
-take_size f (QueryFrame s e c n) = wrong f (QueryFrame s e c n)
-take_size f Unsound = wrong f Unsound
+take_size f (Some (Arc t h w)) = wrong f (Some (Arc t h w))
+take_size f (Some (TwoWay t h w)) = wrong f (Some (TwoWay t h w))
+take_size f (Some (Potentials v h k)) = wrong f (Some (Potentials v h k))
+take_size f (Some (QueryFrame s e c n)) = wrong f (Some (QueryFrame s e c n))
+take_size f None = wrong f None
 
 -- ---- 02 and 05
 -- an arc as it is given
@@ -126,13 +122,13 @@ abbrev pub given_arc : ℕ → ℕ → ℕ → GivenArc
 given_arc t h w = record { tail = t; head = h; weight = w }
 
 -- the arcs that a frame adds: 02 its arc; 05 its arc and then the reverse
-abbrev pub added_arcs : Frame → List GivenArc
-added_arcs (Arc t h w) = given_arc t h w ∷ []
-added_arcs (TwoWay t h w) = given_arc t h w ∷ given_arc h t w ∷ []
-added_arcs (Size n m) = []
-added_arcs (Potentials v h k) = []
-added_arcs (QueryFrame s e c n) = []
-added_arcs Unsound = []
+abbrev pub added_arcs : Option Frame → List GivenArc
+added_arcs (Some (Arc t h w)) = given_arc t h w ∷ []
+added_arcs (Some (TwoWay t h w)) = given_arc t h w ∷ given_arc h t w ∷ []
+added_arcs (Some (Size n m)) = []
+added_arcs (Some (Potentials v h k)) = []
+added_arcs (Some (QueryFrame s e c n)) = []
+added_arcs None = []
 
 abbrev pub with_arcs : Told → List GivenArc → Told
 with_arcs t added =
@@ -148,7 +144,7 @@ with_arcs t added =
     }
 
 -- where arcs are owed: a frame that adds arcs, and no more than are owed
-unfoldable pub take_arcs : File → Frame → FileStep
+unfoldable pub take_arcs : File → Option Frame → FileStep
 take_arcs f g =
     cond (ltb 0 (length (added_arcs g)) && leb (length (added_arcs g)) (f.told.arcs - length f.told.tails))
     (taken f (with_arcs f.told (added_arcs g)) []) (wrong f g)
@@ -168,14 +164,14 @@ with_potentials t h k =
     }
 
 -- where potentials are owed: those of the next node
-unfoldable pub take_potentials : File → Frame → FileStep
-take_potentials f (Potentials v h k) =
-    cond (eqb v (length f.told.forward)) (taken f (with_potentials f.told h k) []) (wrong f (Potentials v h k))
-take_potentials f (Size n m) = wrong f (Size n m)
-take_potentials f (Arc t h w) = wrong f (Arc t h w)
-take_potentials f (TwoWay t h w) = wrong f (TwoWay t h w)
-take_potentials f (QueryFrame s e c n) = wrong f (QueryFrame s e c n)
-take_potentials f Unsound = wrong f Unsound
+unfoldable pub take_potentials : File → Option Frame → FileStep
+take_potentials f (Some (Potentials v h k)) =
+    cond (eqb v (length f.told.forward)) (taken f (with_potentials f.told h k) []) (wrong f (Some (Potentials v h k)))
+take_potentials f (Some (Size n m)) = wrong f (Some (Size n m))
+take_potentials f (Some (Arc t h w)) = wrong f (Some (Arc t h w))
+take_potentials f (Some (TwoWay t h w)) = wrong f (Some (TwoWay t h w))
+take_potentials f (Some (QueryFrame s e c n)) = wrong f (Some (QueryFrame s e c n))
+take_potentials f None = wrong f None
 
 -- ---- 04 and 07
 -- the lists that a query is lent have room for 2,048 entries each, so no query is refused for its room
@@ -204,15 +200,15 @@ with_query t =
     }
 
 -- where a query may stand: it is answered at once; a second one in the display's file is 11
-unfoldable pub take_query : File → Frame → FileStep
-take_query f (QueryFrame s e c n) =
-    cond (f.single && f.told.asked) (wrong f (QueryFrame s e c n))
+unfoldable pub take_query : File → Option Frame → FileStep
+take_query f (Some (QueryFrame s e c n)) =
+    cond (f.single && f.told.asked) (wrong f (Some (QueryFrame s e c n)))
     (taken f (with_query f.told) (query_lines c (query_on f.told s e (pattern_of f.held))))
-take_query f (Size n m) = wrong f (Size n m)
-take_query f (Arc t h w) = wrong f (Arc t h w)
-take_query f (TwoWay t h w) = wrong f (TwoWay t h w)
-take_query f (Potentials v h k) = wrong f (Potentials v h k)
-take_query f Unsound = wrong f Unsound
+take_query f (Some (Size n m)) = wrong f (Some (Size n m))
+take_query f (Some (Arc t h w)) = wrong f (Some (Arc t h w))
+take_query f (Some (TwoWay t h w)) = wrong f (Some (TwoWay t h w))
+take_query f (Some (Potentials v h k)) = wrong f (Some (Potentials v h k))
+take_query f None = wrong f None
 
 -- ---- lines
 -- input order: one 01; arcs to exactly the count stated; a 03 for each node; then queries
@@ -225,7 +221,7 @@ arcs_owed t = ltb (length t.tails) t.arcs
 abbrev pub potentials_owed : Told → Bool
 potentials_owed t = ltb (length t.forward) t.nodes
 
-unfoldable pub take_frame : File → Frame → FileStep
+unfoldable pub take_frame : File → Option Frame → FileStep
 take_frame f g =
     cond (size_owed f.told) (take_size f g)
     (cond (arcs_owed f.told) (take_arcs f g) (cond (potentials_owed f.told) (take_potentials f g) (take_query f g)))

@@ -2,10 +2,9 @@
 -- each with its line. Lines are counted by what stands before them: after i line feeds stands the line with number first + i.
 -- Definitions only; FileGivenLaws proves them of a file's outcome, both ways, and of what it prints; QueryRefusals tells the
 -- refusals of queries from them; and LastPrinted proves them of the last line that a file prints. Assumes nothing.
-use Rattle.std.specs.Prelude.{◌≡◌, ◌≢◌, Bool, true, false, List, [], ◌∷◌, ◌++◌, ℕ, ◌+◌, ◌-◌, ◌≤◌, ◌<◌, length, take, get_or}
-use Rattle.network.specs.declared.Verdict.TheVariants.{Accepted}
+use Rattle.std.specs.Prelude.{◌≡◌, ◌≢◌, Bool, true, false, List, [], ◌∷◌, ◌++◌, ℕ, ◌+◌, ◌-◌, ◌≤◌, ◌<◌, length, take, get_or, Ok, Option, None, Some}
 use Rattle.frames.specs.declared.Frame.{Frame}
-use Rattle.frames.specs.declared.Frame.TheVariants.{Size, Unsound}
+use Rattle.frames.specs.declared.Frame.TheVariants.{Size}
 use Rattle.frames.specs.Digits.{number_at}
 use Rattle.frames.specs.Frame.{frame_of}
 use Rattle.district.specs.File.{Told, nothing_told, last_line, owing}
@@ -17,7 +16,7 @@ abbrev pub line_count : List ℕ → ℕ
 line_count bytes = length (lines_of bytes).whole
 
 -- the frame that the line after i line feeds spells
-abbrev pub frame_after : List ℕ → ℕ → Frame
+abbrev pub frame_after : List ℕ → ℕ → Option Frame
 frame_after bytes i = frame_of (get_or (lines_of bytes).whole i [])
 
 -- what lines tell, one after the other
@@ -48,7 +47,7 @@ last_printed printed = get_or (lines_of printed).whole (line_count printed - 1) 
 pub record TakenAfter (single : Bool) (first : ℕ) (bytes : List ℕ) (i : ℕ) : Type 0 where
   pub numbered : first + i ≢ last_line
   pub may_stand_lem : may_stand single (told_after bytes i) (frame_after bytes i) ≡ true
-  pub good_counts : size_verdict (frame_after bytes i) ≡ Accepted
+  pub good_counts : size_verdict (frame_after bytes i) ≡ Ok tt
 
 -- line n is come to: so many lines stand before it, and each of them is taken
 pub record ComesTo (single : Bool) (first : ℕ) (bytes : List ℕ) (n : ℕ) : Type 0 where
@@ -64,7 +63,7 @@ pub record FirstSize (first : ℕ) (bytes : List ℕ) : Type 0 where
   pub numbered : first ≢ last_line
   pub nodes : ℕ
   pub arcs : ℕ
-  pub frame : frame_after bytes 0 ≡ Size nodes arcs
+  pub frame : frame_after bytes 0 ≡ Some (Size nodes arcs)
 
 -- 1: the node count of the 01 is 0 or above 2,048
 pub record NodesRefused (first : ℕ) (bytes : List ℕ) : Type 0 where
@@ -81,7 +80,7 @@ pub record ArcsRefused (first : ℕ) (bytes : List ℕ) : Type 0 where
 -- after i line feeds stands no sound frame: a whole line that spells none, as one with more digits than any input frame can have
 -- (`too_long` in frames), or a last line without its line feed
 pub data NoFrame (bytes : List ℕ) (i : ℕ) : Type 0 where
-  unsound : i < line_count bytes → frame_after bytes i ≡ Unsound → NoFrame bytes i
+  unsound : i < line_count bytes → frame_after bytes i ≡ None → NoFrame bytes i
   cut : i ≡ line_count bytes → (lines_of bytes).rest ≢ [] → NoFrame bytes i
 
 -- 10: line n is come to, it is not line 4,294,967,295, and it is no sound frame
@@ -100,7 +99,7 @@ pub data Stands (bytes : List ℕ) (i : ℕ) : Type 0 where
 -- before it and a frame is still owed
 pub data Misplaced (single : Bool) (bytes : List ℕ) (n i : ℕ) : Type 0 where
   last : n ≡ last_line → Stands bytes i → Misplaced single bytes n i
-  not_there : i < line_count bytes → frame_after bytes i ≢ Unsound → may_stand single (told_after bytes i) (frame_after bytes i) ≡ false → Misplaced single bytes n i
+  not_there : i < line_count bytes → frame_after bytes i ≢ None → may_stand single (told_after bytes i) (frame_after bytes i) ≡ false → Misplaced single bytes n i
   owed_there : i ≡ line_count bytes → (lines_of bytes).rest ≡ [] → owing (told_after bytes i) ≡ true → Misplaced single bytes n i
 
 -- 11: line n is come to, and stands where it may not or is missing

@@ -2,19 +2,15 @@
 -- give that refusal, and no refusal exactly when they give none. The argument: a file's verdict is the first refusal among the
 -- verdicts on its lines and on its end, each taken where all lines before it are; and the verdict on a line is read off its
 -- three tests. Assumes nothing.
-use Rattle.std.specs.Prelude.{◌≡◌, ◌↔◌, ◌≢◌, Bool, eqb, take, get_or}
+use Rattle.std.specs.Prelude.{◌≡◌, ◌↔◌, ◌≢◌, Bool, eqb, take, get_or, Ok, Err, Option, None, Some, List, [], ◌∷◌, ◌++◌, ℕ, zero, suc, ◌+◌, ◌-◌, ◌≤◌, ◌<◌}
 use Rattle.std.proofs.Math.Path.{refl, sym, ap, subst}
-use Rattle.std.proofs.Common.{◌∙◌, take-suc, eq-eqb, ne_eqb}
+use Rattle.std.proofs.Common.{◌∙◌, take-suc, eq-eqb, ne_eqb, append-nil, arith}
 use Rattle.std.proofs.Math.Bool.{true, false}
-use mathlib.Core.List.{List, [], ◌∷◌, ◌++◌, append-nil}
-use Prim.Native.Nat.{ℕ, zero, suc, ◌+◌, ◌-◌, ◌≤◌, ◌<◌}
-use native.Mathlib.Omega.{arith}
 use Rattle.std.proofs.Math.ListN.{length}
 use Rattle.std.proofs.Math.Seq.{take-length, take-nil}
 use Rattle.network.specs.declared.Cause.{Cause}
 use Rattle.network.specs.declared.Cause.TheVariants.{NodeCount, ArcLists, PotentialLists, StartOrEnd, Pattern, Room, BadArc, BadPotential, Inconsistent, UnsoundLine, MisplacedLine, NoSuchArc, WrongIndex}
-use Rattle.network.specs.declared.Verdict.{Verdict}
-use Rattle.network.specs.declared.Verdict.TheVariants.{Accepted, Refused}
+use Rattle.network.specs.Verdict.{Verdict}
 use Rattle.network.specs.declared.Answer.TheVariants.{Refused as Refusal}
 use Rattle.network.specs.Answer.{number_of, place_of}
 use Rattle.network.specs.Given.{Refuses, by_cause}
@@ -22,7 +18,7 @@ use Rattle.network.specs.CaseSplit.{by_bool, by_eq, by_lt, true≢false}
 use Rattle.network.specs.Refusal.{first_refusal}
 use Rattle.network.specs.RefusalLaws.{refused≢accepted, first_refusal_one, rows_accepted, given_accepted, FirstRow, first_row, row_first}
 use Rattle.frames.specs.declared.Frame.{Frame}
-use Rattle.frames.specs.declared.Frame.TheVariants.{Size, Arc, TwoWay, Potentials, Query as QueryFrame, Unsound}
+use Rattle.frames.specs.declared.Frame.TheVariants.{Size, Arc, TwoWay, Potentials, Query as QueryFrame}
 use Rattle.frames.specs.Frame.{frame_of}
 use Rattle.frames.specs.AnswerLines.{answer_lines}
 use Rattle.district.specs.File.{Told, nothing_told, last_line, wrong_cause, size_owed, owing, answer_from}
@@ -46,16 +42,16 @@ GivenByCause single first bytes (Inconsistent a) = ⊥
 GivenByCause single first bytes (NoSuchArc a) = ⊥
 GivenByCause single first bytes WrongIndex = ⊥
 
-same_cause : {c d : Cause} → Refused c ≡ Refused d → c ≡ d
+same_cause : {c d : Cause} → ◌≡◌ {A = Verdict} (Err c) (Err d) → c ≡ d
 same_cause {c} {d} e = cc
 
 -- ---- the verdict on one frame
-module _ (single : Bool) (n : ℕ) (t : Told) (g : Frame) where
-  verdict_last : n ≡ last_line → frame_verdict single n t g ≡ Refused (MisplacedLine n)
+module _ (single : Bool) (n : ℕ) (t : Told) (g : Option Frame) where
+  verdict_last : n ≡ last_line → frame_verdict single n t g ≡ Err (MisplacedLine n)
   unfolding frame_verdict first_refusal
   verdict_last e = rw (eq-eqb n last_line e)
 
-  verdict_wrong : n ≢ last_line → may_stand single t g ≡ false → frame_verdict single n t g ≡ Refused (wrong_cause g n)
+  verdict_wrong : n ≢ last_line → may_stand single t g ≡ false → frame_verdict single n t g ≡ Err (wrong_cause g n)
   unfolding frame_verdict first_refusal
   verdict_wrong e m = rw (ne_eqb n last_line e, m)
 
@@ -64,28 +60,20 @@ module _ (single : Bool) (n : ℕ) (t : Told) (g : Frame) where
   verdict_counts e m = rw (ne_eqb n last_line e, m) (first_refusal_one (size_verdict g))
 
 -- a last line without its line feed is judged as no sound frame
-cut_verdict : (single : Bool) (n : ℕ) (t : Told) (rest : List ℕ) → rest ≢ [] → end_verdict single n t rest ≡ frame_verdict single n t Unsound
+cut_verdict : (single : Bool) (n : ℕ) (t : Told) (rest : List ℕ) → rest ≢ [] → end_verdict single n t rest ≡ frame_verdict single n t None
 unfolding end_verdict
 cut_verdict single n t [] some = absurd (some refl)
 cut_verdict single n t (b ∷ rest) some = refl
 
 -- a frame is sound or not
-by_sound : {P : Type 0} (g : Frame) → (g ≡ Unsound → P) → (g ≢ Unsound → P) → P
-by_sound Unsound f k = f refl
-by_sound (Size a b) f k = k (λ e. let z : ◌≡◌ {A = ℕ} 0 1 = cc in omega arith)
-by_sound (Arc a b w) f k = k (λ e. let z : ◌≡◌ {A = ℕ} 0 1 = cc in omega arith)
-by_sound (TwoWay a b w) f k = k (λ e. let z : ◌≡◌ {A = ℕ} 0 1 = cc in omega arith)
-by_sound (Potentials v a b) f k = k (λ e. let z : ◌≡◌ {A = ℕ} 0 1 = cc in omega arith)
-by_sound (QueryFrame a b c n) f k = k (λ e. let z : ◌≡◌ {A = ℕ} 0 1 = cc in omega arith)
+by_sound : {P : Type 0} (g : Option Frame) → (g ≡ None → P) → (g ≢ None → P) → P
+by_sound None f k = f refl
+by_sound (Some g) f k = k (λ e. let z : ◌≡◌ {A = ℕ} 0 1 = cc in omega arith)
 
 -- a sound frame that is not taken is 11
-sound_misplaced : (g : Frame) → g ≢ Unsound → (n : ℕ) → wrong_cause g n ≡ MisplacedLine n
-sound_misplaced Unsound s n = absurd (s refl)
-sound_misplaced (Size a b) s n = refl
-sound_misplaced (Arc a b w) s n = refl
-sound_misplaced (TwoWay a b w) s n = refl
-sound_misplaced (Potentials v a b) s n = refl
-sound_misplaced (QueryFrame a b c k) s n = refl
+sound_misplaced : (g : Option Frame) → g ≢ None → (n : ℕ) → wrong_cause g n ≡ MisplacedLine n
+sound_misplaced None s n = absurd (s refl)
+sound_misplaced (Some g) s n = refl
 
 -- ---- the verdicts in turn
 -- on each line and then on the end of input
@@ -97,13 +85,13 @@ verdicts_from single n t (line ∷ more) rest =
 -- a line's verdict, and then the first refusal after it
 then_verdict : (v : Verdict) (printed : List ℕ) (later : Outcome) (rows : List Verdict) → later.verdict ≡ first_refusal rows → (then_on v printed later).verdict ≡ first_refusal (v ∷ rows)
 unfolding first_refusal
-then_verdict Accepted printed later rows e = e
-then_verdict (Refused c) printed later rows e = refl
+then_verdict (Ok _) printed later rows e = e
+then_verdict (Err c) printed later rows e = refl
 
 -- a line that is refused prints nothing
-then_none : (v : Verdict) (printed : List ℕ) (later : Outcome) → (v ≡ Accepted → ⊥) → (then_on v printed later).answers ≡ []
-then_none Accepted printed later never = absurd (never refl)
-then_none (Refused c) printed later never = refl
+then_none : (v : Verdict) (printed : List ℕ) (later : Outcome) → (v ≡ Ok tt → ⊥) → (then_on v printed later).answers ≡ []
+then_none (Ok _) printed later never = absurd (never refl)
+then_none (Err c) printed later never = refl
 
 module _ (single : Bool) where
   -- the first refusal is the file's
@@ -116,7 +104,7 @@ module _ (single : Bool) where
 
   -- the verdict on a line, where the lines before it told what they tell
   verdict_at : (n : ℕ) (t : Told) (lines : List (List ℕ)) (rest : List ℕ) (i : ℕ) → i < length lines
-      → get_or (verdicts_from single n t lines rest) i Accepted ≡ frame_verdict single (n + i) (told_by_lines t (take i lines)) (frame_of (get_or lines i []))
+      → get_or (verdicts_from single n t lines rest) i (Ok tt) ≡ frame_verdict single (n + i) (told_by_lines t (take i lines)) (frame_of (get_or lines i []))
   unfolding verdicts_from told_by_lines
   verdict_at n t [] rest i h = absurd (omega arith)
   verdict_at n t (line ∷ more) rest zero h = let e : n ≡ n + 0 = omega arith in ap (λ (m : ℕ). frame_verdict single m t (frame_of line)) e
@@ -127,7 +115,7 @@ module _ (single : Bool) where
 
   -- the verdict on the end
   verdict_end : (n : ℕ) (t : Told) (lines : List (List ℕ)) (rest : List ℕ)
-      → get_or (verdicts_from single n t lines rest) (length lines) Accepted ≡ end_verdict single (n + length lines) (told_by_lines t lines) rest
+      → get_or (verdicts_from single n t lines rest) (length lines) (Ok tt) ≡ end_verdict single (n + length lines) (told_by_lines t lines) rest
   unfolding verdicts_from told_by_lines
   verdict_end n t [] rest = let e : n ≡ n + 0 = omega arith in ap (λ (m : ℕ). end_verdict single m t rest) e
   verdict_end n t (line ∷ more) rest =
@@ -136,7 +124,7 @@ module _ (single : Bool) where
       ∙ ap (λ (m : ℕ). end_verdict single m (told_by_lines (told_with t (frame_of line)) more) rest) e
 
   -- beyond the end there is none
-  verdict_none : (n : ℕ) (t : Told) (lines : List (List ℕ)) (rest : List ℕ) (i : ℕ) → length lines < i → get_or (verdicts_from single n t lines rest) i Accepted ≡ Accepted
+  verdict_none : (n : ℕ) (t : Told) (lines : List (List ℕ)) (rest : List ℕ) (i : ℕ) → length lines < i → get_or (verdicts_from single n t lines rest) i (Ok tt) ≡ Ok tt
   unfolding verdicts_from
   verdict_none n t [] rest zero h = absurd (omega arith)
   verdict_none n t [] rest (suc i) h = refl
@@ -146,8 +134,8 @@ module _ (single : Bool) where
 -- ---- what lines print
 -- lines that are taken, up to one that is refused or to the end: their queries are answered, and no other
 taken_print : (single : Bool) (n : ℕ) (t : Told) (lines : List (List ℕ)) (rest : List ℕ) (i : ℕ)
-    → ((j : ℕ) → j < i → get_or (verdicts_from single n t lines rest) j Accepted ≡ Accepted)
-    → (get_or (verdicts_from single n t lines rest) i Accepted ≡ Accepted → length lines ≤ i)
+    → ((j : ℕ) → j < i → get_or (verdicts_from single n t lines rest) j (Ok tt) ≡ Ok tt)
+    → (get_or (verdicts_from single n t lines rest) i (Ok tt) ≡ Ok tt → length lines ≤ i)
     → (read_lines single n t lines rest).answers ≡ printed_by_lines t (take i lines)
 unfolding read_lines verdicts_from printed_by_lines
 taken_print single n t [] rest i before here = rw (take-nil i)
@@ -163,14 +151,14 @@ told_last t [] line = refl
 told_last t (l ∷ lines) line = told_last (told_with t (frame_of l)) lines line
 
 -- after a line that is taken the 01 is read
-size_read_lem : (single : Bool) (t : Told) (g : Frame) → may_stand single t g ≡ true → size_verdict g ≡ Accepted → size_owed (told_with t g) ≡ false
+size_read_lem : (single : Bool) (t : Told) (g : Option Frame) → may_stand single t g ≡ true → size_verdict g ≡ Ok tt → size_owed (told_with t g) ≡ false
 unfolding may_stand told_with first_refusal
-size_read_lem single t (Size a b) m s = by_bool (eqb a 0) (λ z. absurd (refused≢accepted {c = NodeCount} (rw z at s))) (λ z. z)
-size_read_lem single t (Arc a b w) m s = by_bool (size_owed t) (λ z. absurd (true≢false (rw z at m) refl)) (λ z. z)
-size_read_lem single t (TwoWay a b w) m s = by_bool (size_owed t) (λ z. absurd (true≢false (rw z at m) refl)) (λ z. z)
-size_read_lem single t (Potentials v a b) m s = by_bool (size_owed t) (λ z. absurd (true≢false (rw z at m) refl)) (λ z. z)
-size_read_lem single t (QueryFrame a b c k) m s = by_bool (size_owed t) (λ z. absurd (true≢false (rw z at m) refl)) (λ z. z)
-size_read_lem single t Unsound m s = absurd (true≢false m refl)
+size_read_lem single t (Some (Size a b)) m s = by_bool (eqb a 0) (λ z. absurd (refused≢accepted {c = NodeCount} (rw z at s))) (λ z. z)
+size_read_lem single t (Some (Arc a b w)) m s = by_bool (size_owed t) (λ z. absurd (true≢false (rw z at m) refl)) (λ z. z)
+size_read_lem single t (Some (TwoWay a b w)) m s = by_bool (size_owed t) (λ z. absurd (true≢false (rw z at m) refl)) (λ z. z)
+size_read_lem single t (Some (Potentials v a b)) m s = by_bool (size_owed t) (λ z. absurd (true≢false (rw z at m) refl)) (λ z. z)
+size_read_lem single t (Some (QueryFrame a b c k)) m s = by_bool (size_owed t) (λ z. absurd (true≢false (rw z at m) refl)) (λ z. z)
+size_read_lem single t None m s = absurd (true≢false m refl)
 
 -- ---- the lines of a file
 module _ (single : Bool) (first : ℕ) (bytes : List ℕ) where
@@ -182,21 +170,21 @@ module _ (single : Bool) (first : ℕ) (bytes : List ℕ) where
   unfolding outcome_of
   verdict_is = verdict_first single first nothing_told (lines_of bytes).whole (lines_of bytes).rest
 
-  row_line : (i : ℕ) → i < line_count bytes → get_or rows i Accepted ≡ frame_verdict single (first + i) (told_after bytes i) (frame_after bytes i)
+  row_line : (i : ℕ) → i < line_count bytes → get_or rows i (Ok tt) ≡ frame_verdict single (first + i) (told_after bytes i) (frame_after bytes i)
   row_line i h = verdict_at single first nothing_told (lines_of bytes).whole (lines_of bytes).rest i h
 
-  row_end : (i : ℕ) → i ≡ line_count bytes → get_or rows i Accepted ≡ end_verdict single (first + i) (told_after bytes i) (lines_of bytes).rest
+  row_end : (i : ℕ) → i ≡ line_count bytes → get_or rows i (Ok tt) ≡ end_verdict single (first + i) (told_after bytes i) (lines_of bytes).rest
   row_end i e = rw (e, take-length (lines_of bytes).whole) (verdict_end single first nothing_told (lines_of bytes).whole (lines_of bytes).rest)
 
   -- a line whose verdict accepts it is taken, and the other way round
-  pub accepted_taken : (i : ℕ) → frame_verdict single (first + i) (told_after bytes i) (frame_after bytes i) ≡ Accepted → TakenAfter single first bytes i
+  pub accepted_taken : (i : ℕ) → frame_verdict single (first + i) (told_after bytes i) (frame_after bytes i) ≡ Ok tt → TakenAfter single first bytes i
   accepted_taken i e =
       by_eq (first + i) last_line (λ l. absurd (refused≢accepted (sym (verdict_last single _ _ _ l) ∙ e)))
       (λ l. by_bool (may_stand single (told_after bytes i) (frame_after bytes i))
       (λ m. record { numbered = l; may_stand_lem = m; good_counts = sym (verdict_counts single _ _ _ l m) ∙ e })
       (λ m. absurd (refused≢accepted (sym (verdict_wrong single _ _ _ l m) ∙ e))))
 
-  pub taken_accepted : (i : ℕ) → TakenAfter single first bytes i → frame_verdict single (first + i) (told_after bytes i) (frame_after bytes i) ≡ Accepted
+  pub taken_accepted : (i : ℕ) → TakenAfter single first bytes i → frame_verdict single (first + i) (told_after bytes i) (frame_after bytes i) ≡ Ok tt
   taken_accepted i t = verdict_counts single _ _ _ t.numbered t.may_stand_lem ∙ t.good_counts
 
   -- what one line more tells
@@ -223,28 +211,28 @@ module _ (single : Bool) (first : ℕ) (bytes : List ℕ) where
           (λ u. rw u (record { comes = come (omega arith); numbered = l; no_frame = unsound h u }))
           (λ s. rw (sound_misplaced (frame_after bytes i) s (first + i)) (record { comes = come (omega arith); misplaced = not_there h s m }))
 
-      counts_given : (c : Cause) (g : Frame) → frame_after bytes i ≡ g → first + i ≢ last_line → may_stand single (told_after bytes i) g ≡ true → size_verdict g ≡ Refused c → GivenByCause single first bytes c
+      counts_given : (c : Cause) (g : Option Frame) → frame_after bytes i ≡ g → first + i ≢ last_line → may_stand single (told_after bytes i) g ≡ true → size_verdict g ≡ Err c → GivenByCause single first bytes c
       unfolding may_stand first_refusal
-      counts_given c (Size a b) e l m s =
+      counts_given c (Some (Size a b)) e l m s =
           let z : i ≡ 0 = size_once i (omega arith) taken m in
           let size : FirstSize first bytes = record {
             there = omega arith;
             numbered = λ q. l (omega (arith, z, q));
             nodes = a;
             arcs = b;
-            frame = subst (λ (k : ℕ). frame_after bytes k ≡ Size a b) z e;
+            frame = subst (λ (k : ℕ). frame_after bytes k ≡ Some (Size a b)) z e;
           } in
           by_bool (bad_nodes a) (λ p. subst (λ (x : Cause). GivenByCause single first bytes x) (same_cause {c = NodeCount} (rw p at s)) (record { size = size; bad = p }))
           (λ p. by_bool (bad_arcs b)
           (λ q. subst (λ (x : Cause). GivenByCause single first bytes x) (same_cause {c = ArcLists} (rw (p, q) at s)) (record { size = size; good = p; bad = q }))
           (λ q. absurd (refused≢accepted (sym (rw (p, q) at s)))))
-      counts_given c (Arc a b w) e l m s = absurd (refused≢accepted (sym s))
-      counts_given c (TwoWay a b w) e l m s = absurd (refused≢accepted (sym s))
-      counts_given c (Potentials v a b) e l m s = absurd (refused≢accepted (sym s))
-      counts_given c (QueryFrame a b d k) e l m s = absurd (refused≢accepted (sym s))
-      counts_given c Unsound e l m s = absurd (refused≢accepted (sym s))
+      counts_given c (Some (Arc a b w)) e l m s = absurd (refused≢accepted (sym s))
+      counts_given c (Some (TwoWay a b w)) e l m s = absurd (refused≢accepted (sym s))
+      counts_given c (Some (Potentials v a b)) e l m s = absurd (refused≢accepted (sym s))
+      counts_given c (Some (QueryFrame a b d k)) e l m s = absurd (refused≢accepted (sym s))
+      counts_given c None e l m s = absurd (refused≢accepted (sym s))
 
-      line_given : (c : Cause) → frame_verdict single (first + i) (told_after bytes i) (frame_after bytes i) ≡ Refused c → GivenByCause single first bytes c
+      line_given : (c : Cause) → frame_verdict single (first + i) (told_after bytes i) (frame_after bytes i) ≡ Err c → GivenByCause single first bytes c
       line_given c e =
           by_eq (first + i) last_line
           (λ l. subst (λ (x : Cause). GivenByCause single first bytes x) (same_cause (sym (verdict_last single _ _ _ l) ∙ e))
@@ -254,7 +242,7 @@ module _ (single : Bool) (first : ℕ) (bytes : List ℕ) where
           (λ m. subst (λ (x : Cause). GivenByCause single first bytes x) (same_cause (sym (verdict_wrong single _ _ _ l m) ∙ e)) (wrong_given l m)))
 
     -- the end of input
-    end_given : (c : Cause) → i ≡ line_count bytes → (rest : List ℕ) → (lines_of bytes).rest ≡ rest → end_verdict single (first + i) (told_after bytes i) rest ≡ Refused c → GivenByCause single first bytes c
+    end_given : (c : Cause) → i ≡ line_count bytes → (rest : List ℕ) → (lines_of bytes).rest ≡ rest → end_verdict single (first + i) (told_after bytes i) rest ≡ Err c → GivenByCause single first bytes c
     unfolding end_verdict may_stand
     end_given c h [] r e =
         by_bool (owing (told_after bytes i))
@@ -264,9 +252,9 @@ module _ (single : Bool) (first : ℕ) (bytes : List ℕ) where
         let some : (lines_of bytes).rest ≢ [] = λ z. omega (arith, ap length r, ap length z) in
         by_eq (first + i) last_line
         (λ l. subst (λ (x : Cause). GivenByCause single first bytes x) (same_cause (sym (verdict_last single _ _ _ l) ∙ e)) (record { comes = come (omega arith); misplaced = last l (part h some) }))
-        (λ l. subst (λ (x : Cause). GivenByCause single first bytes x) (same_cause (sym (verdict_wrong single _ _ Unsound l refl) ∙ e)) (record { comes = come (omega arith); numbered = l; no_frame = cut h some }))
+        (λ l. subst (λ (x : Cause). GivenByCause single first bytes x) (same_cause (sym (verdict_wrong single _ _ None l refl) ∙ e)) (record { comes = come (omega arith); numbered = l; no_frame = cut h some }))
 
-  refused_given : (c : Cause) → (outcome_of single first bytes).verdict ≡ Refused c → GivenByCause single first bytes c
+  refused_given : (c : Cause) → (outcome_of single first bytes).verdict ≡ Err c → GivenByCause single first bytes c
   refused_given c e = go (first_row rows (sym verdict_is ∙ e))
     where
       go : FirstRow rows c → GivenByCause single first bytes c
@@ -284,7 +272,7 @@ module _ (single : Bool) (first : ℕ) (bytes : List ℕ) where
     pub its_place : row.index ≡ place_of c - first
 
   -- where all lines before are taken, the verdict there is the first refusal
-  come_row : {n : ℕ} (c : Cause) (k : ComesTo single first bytes n) → place_of c ≡ n → get_or rows k.before Accepted ≡ Refused c → GivenRow c
+  come_row : {n : ℕ} (c : Cause) (k : ComesTo single first bytes n) → place_of c ≡ n → get_or rows k.before (Ok tt) ≡ Err c → GivenRow c
   come_row c k p e =
       let w = k.within in
       record {
@@ -293,7 +281,7 @@ module _ (single : Bool) (first : ℕ) (bytes : List ℕ) where
       }
 
   -- the first line is a 01: its counts decide
-  size_row : (c : Cause) (s : FirstSize first bytes) → place_of c ≡ 0 → size_verdict (Size s.nodes s.arcs) ≡ Refused c → GivenRow c
+  size_row : (c : Cause) (s : FirstSize first bytes) → place_of c ≡ 0 → size_verdict (Some (Size s.nodes s.arcs)) ≡ Err c → GivenRow c
   unfolding may_stand told_by_lines
   size_row c s p e =
       let stands : may_stand single (told_after bytes 0) (frame_after bytes 0) ≡ true = rw s.frame in
@@ -309,22 +297,22 @@ module _ (single : Bool) (first : ℕ) (bytes : List ℕ) where
       }
 
   -- 10
-  unwhole_row : {n : ℕ} (k : ComesTo single first bytes n) → n ≢ last_line → NoFrame bytes k.before → get_or rows k.before Accepted ≡ Refused (UnsoundLine n)
+  unwhole_row : {n : ℕ} (k : ComesTo single first bytes n) → n ≢ last_line → NoFrame bytes k.before → get_or rows k.before (Ok tt) ≡ Err (UnsoundLine n)
   unfolding may_stand
   unwhole_row {n} k l (unsound h e) =
       let stands : may_stand single (told_after bytes k.before) (frame_after bytes k.before) ≡ false = rw e in
       row_line k.before h ∙ (verdict_wrong single _ _ _ (λ q. l (k.its_number ∙ q)) stands ∙ rw (e, k.its_number))
   unwhole_row {n} k l (cut h r) =
-      row_end k.before h ∙ (cut_verdict single _ _ _ r ∙ (verdict_wrong single _ _ Unsound (λ q. l (k.its_number ∙ q)) refl ∙ rw k.its_number))
+      row_end k.before h ∙ (cut_verdict single _ _ _ r ∙ (verdict_wrong single _ _ None (λ q. l (k.its_number ∙ q)) refl ∙ rw k.its_number))
 
   -- 11
-  misplaced_row : {n : ℕ} (k : ComesTo single first bytes n) → Misplaced single bytes n k.before → get_or rows k.before Accepted ≡ Refused (MisplacedLine n)
+  misplaced_row : {n : ℕ} (k : ComesTo single first bytes n) → Misplaced single bytes n k.before → get_or rows k.before (Ok tt) ≡ Err (MisplacedLine n)
   unfolding end_verdict
   misplaced_row {n} k (last l (whole h)) = row_line k.before h ∙ (verdict_last single _ _ _ (sym k.its_number ∙ l) ∙ rw k.its_number)
   misplaced_row {n} k (last l (part h r)) =
       row_end k.before h
       ∙ (cut_verdict single _ (told_after bytes k.before) _ r
-      ∙ (verdict_last single _ (told_after bytes k.before) Unsound (sym k.its_number ∙ l) ∙ rw k.its_number))
+      ∙ (verdict_last single _ (told_after bytes k.before) None (sym k.its_number ∙ l) ∙ rw k.its_number))
   misplaced_row {n} k (not_there h u m) =
       row_line k.before h
       ∙ by_eq (first + k.before) last_line (λ l. verdict_last single _ _ _ l ∙ rw k.its_number)
@@ -347,12 +335,12 @@ module _ (single : Bool) (first : ℕ) (bytes : List ℕ) where
   given_row (NoSuchArc a) g = absurd g
   given_row WrongIndex g = absurd g
 
-  given_refused : (c : Cause) → GivenByCause single first bytes c → (outcome_of single first bytes).verdict ≡ Refused c
+  given_refused : (c : Cause) → GivenByCause single first bytes c → (outcome_of single first bytes).verdict ≡ Err c
   given_refused c g = let r : FirstRow rows c = (given_row c g).row in verdict_is ∙ row_first rows r.index r.refuses r.before
 
   -- ---- exactly when
   -- a file is refused exactly when the rules give the refusal
-  pub file_refused_exactly_when : (c : Cause) → ((outcome_of single first bytes).verdict ≡ Refused c) ↔ GivenByCause single first bytes c
+  pub file_refused_exactly_when : (c : Cause) → ((outcome_of single first bytes).verdict ≡ Err c) ↔ GivenByCause single first bytes c
   file_refused_exactly_when c = (refused_given c, given_refused c)
 
   -- the same by number and place, which are those of the cause
@@ -384,39 +372,39 @@ module _ (single : Bool) (first : ℕ) (bytes : List ℕ) where
   file_given_exactly_when number place = (λ r. refuses_condition r refl, condition_refuses)
 
   -- a file is read to its end exactly when the rules give none
-  pub file_accepted_exactly_when : ((outcome_of single first bytes).verdict ≡ Accepted) ↔ ((c : Cause) → GivenByCause single first bytes c → ⊥)
+  pub file_accepted_exactly_when : ((outcome_of single first bytes).verdict ≡ Ok tt) ↔ ((c : Cause) → GivenByCause single first bytes c → ⊥)
   file_accepted_exactly_when = (λ e c g. refused≢accepted (sym (given_refused c g) ∙ e), λ none. go none (outcome_of single first bytes).verdict refl)
     where
-      go : ((c : Cause) → GivenByCause single first bytes c → ⊥) → (v : Verdict) → (outcome_of single first bytes).verdict ≡ v → (outcome_of single first bytes).verdict ≡ Accepted
-      go none Accepted e = e
-      go none (Refused c) e = absurd (none c (refused_given c e))
+      go : ((c : Cause) → GivenByCause single first bytes c → ⊥) → (v : Verdict) → (outcome_of single first bytes).verdict ≡ v → (outcome_of single first bytes).verdict ≡ Ok tt
+      go none (Ok _) e = e
+      go none (Err c) e = absurd (none c (refused_given c e))
 
   -- that is, exactly when each line is taken, the last one has its line feed, and no frame is owed
-  accepted_end : (rest : List ℕ) → (lines_of bytes).rest ≡ rest → end_verdict single (first + line_count bytes) (told_after bytes (line_count bytes)) rest ≡ Accepted
+  accepted_end : (rest : List ℕ) → (lines_of bytes).rest ≡ rest → end_verdict single (first + line_count bytes) (told_after bytes (line_count bytes)) rest ≡ Ok tt
       → ((lines_of bytes).rest ≡ []) × (owing (told_after bytes (line_count bytes)) ≡ false)
   unfolding end_verdict may_stand
   accepted_end [] r e = (r, given_accepted _ _ e)
   accepted_end (b ∷ rest) r e =
       by_eq (first + line_count bytes) last_line (λ l. absurd (refused≢accepted (sym (verdict_last single _ _ _ l) ∙ e)))
-      (λ l. absurd (refused≢accepted (sym (verdict_wrong single _ _ Unsound l refl) ∙ e)))
+      (λ l. absurd (refused≢accepted (sym (verdict_wrong single _ _ None l refl) ∙ e)))
 
-  accepted_whole : (outcome_of single first bytes).verdict ≡ Accepted → TakenWhole single first bytes
+  accepted_whole : (outcome_of single first bytes).verdict ≡ Ok tt → TakenWhole single first bytes
   accepted_whole e =
-      let all : (i : ℕ) → get_or rows i Accepted ≡ Accepted = rows_accepted rows (sym verdict_is ∙ e) in
+      let all : (i : ℕ) → get_or rows i (Ok tt) ≡ (Ok tt) = rows_accepted rows (sym verdict_is ∙ e) in
       let end : ((lines_of bytes).rest ≡ []) × (owing (told_after bytes (line_count bytes)) ≡ false) = accepted_end (lines_of bytes).rest refl (sym (row_end (line_count bytes) refl) ∙ all (line_count bytes)) in
       record { taken = λ i h. accepted_taken i (sym (row_line i h) ∙ all i); ended = end.0; none_owed = end.1 }
 
-  whole_row : TakenWhole single first bytes → (i : ℕ) → get_or rows i Accepted ≡ Accepted
+  whole_row : TakenWhole single first bytes → (i : ℕ) → get_or rows i (Ok tt) ≡ Ok tt
   unfolding end_verdict
   whole_row s i =
       by_lt i (line_count bytes) (λ h. row_line i h ∙ taken_accepted i (s.taken i h))
       (λ h. by_eq i (line_count bytes) (λ q. row_end i q ∙ rw (s.ended, q, s.none_owed))
       (λ q. verdict_none single first nothing_told (lines_of bytes).whole (lines_of bytes).rest i (omega arith)))
 
-  whole_accepted : TakenWhole single first bytes → (outcome_of single first bytes).verdict ≡ Accepted
+  whole_accepted : TakenWhole single first bytes → (outcome_of single first bytes).verdict ≡ Ok tt
   whole_accepted s = file_accepted_exactly_when.1 (λ c g. let r : FirstRow rows c = (given_row c g).row in refused≢accepted (sym r.refuses ∙ whole_row s r.index))
 
-  pub file_taken_whole : ((outcome_of single first bytes).verdict ≡ Accepted) ↔ TakenWhole single first bytes
+  pub file_taken_whole : ((outcome_of single first bytes).verdict ≡ Ok tt) ↔ TakenWhole single first bytes
   file_taken_whole = (accepted_whole, whole_accepted)
 
   -- no file has two refusals
@@ -424,7 +412,7 @@ module _ (single : Bool) (first : ℕ) (bytes : List ℕ) where
   file_refused_once c d g h = same_cause (sym (given_refused c g) ∙ given_refused d h)
 
   -- ---- what is printed
-  prints_before : (i : ℕ) → ((j : ℕ) → j < i → get_or rows j Accepted ≡ Accepted) → (get_or rows i Accepted ≡ Accepted → line_count bytes ≤ i)
+  prints_before : (i : ℕ) → ((j : ℕ) → j < i → get_or rows j (Ok tt) ≡ Ok tt) → (get_or rows i (Ok tt) ≡ Ok tt → line_count bytes ≤ i)
       → (outcome_of single first bytes).answers ≡ printed_after bytes i
   unfolding outcome_of
   prints_before i before here = taken_print single first nothing_told (lines_of bytes).whole (lines_of bytes).rest i before here
@@ -433,7 +421,7 @@ module _ (single : Bool) (first : ℕ) (bytes : List ℕ) where
   refused_answers c r =
       rw (← r.its_place) (prints_before r.row.index r.row.before (λ e. absurd (refused≢accepted (sym r.row.refuses ∙ e))))
 
-  accepted_answers : (outcome_of single first bytes).verdict ≡ Accepted → (outcome_of single first bytes).answers ≡ printed_after bytes (line_count bytes)
+  accepted_answers : (outcome_of single first bytes).verdict ≡ Ok tt → (outcome_of single first bytes).answers ≡ printed_after bytes (line_count bytes)
   accepted_answers e = prints_before (line_count bytes) (λ j h. rows_accepted rows (sym verdict_is ∙ e) j) (λ z. omega arith)
 
   -- where a refusal is given: the answers of the queries on the lines before it, and then its FF line
@@ -443,5 +431,5 @@ module _ (single : Bool) (first : ℕ) (bytes : List ℕ) where
   -- where none is: the answers of all queries
   pub file_accepted_prints : ((c : Cause) → GivenByCause single first bytes c → ⊥) → answer_from single first bytes ≡ printed_after bytes (line_count bytes)
   file_accepted_prints none =
-      let e : (outcome_of single first bytes).verdict ≡ Accepted = file_accepted_exactly_when.1 none in
+      let e : (outcome_of single first bytes).verdict ≡ (Ok tt) = file_accepted_exactly_when.1 none in
       file_by_lines single first bytes ∙ rw (e, append-nil, accepted_answers e)

@@ -1,15 +1,12 @@
 -- Laws of a file's answer: bytes may come in any pieces; a step prints no more than the lines of one answer, and the display's
 -- file no more than those and a refusal's line. Assumes nothing.
-use Rattle.std.specs.Prelude.{◌≡◌, refl, Bool, true, false, cond, ℕ, ◌+◌, ◌≤◌, length, take}
-use Rattle.std.proofs.Common.{ap, ◌∙◌, arith, length-append, length-take, ltb-true}
-use mathlib.Core.List.{List, [], ◌∷◌, ◌++◌, append_assoc}
-use Rattle.network.specs.declared.Cap.{Cap}
-use Rattle.network.specs.declared.Cap.TheVariants.{AtMost}
+use Rattle.std.specs.Prelude.{◌≡◌, refl, Bool, true, false, cond, ℕ, ◌+◌, ◌≤◌, length, take, Ok, Err, Some, List, [], ◌∷◌, ◌++◌}
+use Rattle.std.proofs.Common.{ap, ◌∙◌, arith, length-append, length-take, ltb-true, append_assoc}
+use Rattle.network.specs.Cap.{Cap}
 use Rattle.network.specs.declared.Cause.{Cause}
 use Rattle.network.specs.declared.Answer.{Answer}
 use Rattle.network.specs.declared.Figures.{Figures}
-use Rattle.network.specs.declared.Verdict.{Verdict}
-use Rattle.network.specs.declared.Verdict.TheVariants.{Accepted, Refused as Refusal}
+use Rattle.network.specs.Verdict.{Verdict}
 use Rattle.network.specs.CaseSplit.{by_bool}
 use Rattle.network.specs.Network.{most_nodes}
 use Rattle.network.specs.Query.{Query}
@@ -81,13 +78,13 @@ found_short q sound cap =
     (λ t h. omega (arith, length_no_route f path))
     (λ t h. omega (arith, length_undecided f path))
 
-capped_short : (q : Query) (cap : ℕ) → length (query_lines (AtMost cap) q) ≤ most_bytes
+capped_short : (q : Query) (cap : ℕ) → length (query_lines (Some cap) q) ≤ most_bytes
 unfolding query_lines answer_to_at
 capped_short q cap = go (query_verdict q work_room) refl
   where
     go : (v : Verdict) → query_verdict q work_room ≡ v → length (answer_lines (refused_or v (found_at q cap)) (path_of q (state_at q cap))) ≤ most_bytes
-    go (Refusal c) e = omega (arith, length_refused c (path_of q (state_at q cap)))
-    go Accepted e = found_short q (accepted_sound q work_room e) cap
+    go (Err c) e = omega (arith, length_refused c (path_of q (state_at q cap)))
+    go (Ok _) e = found_short q (accepted_sound q work_room e) cap
 
 -- no query's answer has more bytes than a route over 2,048 nodes
 pub query_short : (c : Cap) (q : Query) → length (query_lines c q) ≤ most_bytes

@@ -1,15 +1,12 @@
 -- Bytes held many at once: they are held one after the other, as the definition takes them, and as many as it would hold before
 -- the line ends or is full. Assumes nothing.
-use Rattle.std.specs.Prelude.{◌≡◌, true, false, eqb, length, take, drop, set}
+use Rattle.std.proofs.lemmas.Bool.{eqb-false, eq-eqb, ne_eqb, lt-ltb}
+use Rattle.std.specs.Prelude.{◌≡◌, true, false, eqb, length, take, drop, set, List, [], ◌∷◌, ◌++◌, ℕ, zero, suc, ◌+◌, ◌-◌, ◌≤◌, ◌<◌}
 use Rattle.std.proofs.Math.Path.{refl}
-use Rattle.std.proofs.Common.{sym, ap, ◌∙◌, zero-add, length-append, drop_of_length-le}
-use mathlib.Core.List.{List, [], ◌∷◌, ◌++◌, append_assoc, append-nil}
-use Prim.Native.Nat.{ℕ, zero, suc, ◌+◌, ◌-◌, ◌≤◌, ◌<◌}
-use native.Mathlib.Omega.{arith}
+use Rattle.std.proofs.Common.{sym, ap, ◌∙◌, zero-add, length-append, drop_of_length-le, append_assoc, append-nil, arith}
 use Rattle.std.proofs.Math.Numerals.{add-one}
 use Rattle.std.proofs.Math.ListN.{get_or}
 use Rattle.std.proofs.Math.Seq.{take-suc, drop-cons, drop-drop}
-use borrow.Author.Tests.{eqb-false, eq-eqb, ne_eqb, lt-ltb}
 use Rattle.network.specs.CaseSplit.{cases}
 use Rattle.frames.specs.AnswerLines.{line_feed}
 use Rattle.frames.specs.Frame.{most_digits}

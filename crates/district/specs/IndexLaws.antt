@@ -1,13 +1,12 @@
 -- The index that a reader keeps: until all potentials are read its lists are as lent, with the last potentials of a network that is
 -- accepted it is built, and from then on it is left alone, so that a query finds there what it asks for. Assumes nothing.
-use Rattle.std.specs.Prelude.{◌≡◌, refl, Bool, true, false, cond, ◌||◌, List, ◌++◌, ℕ, ◌≤◌, ◌<◌, ℤ, length, take}
+use Rattle.std.proofs.lemmas.Bool.{ne_eqb, lt-ltb, le-ltb, lt-leb}
+use Rattle.std.specs.Prelude.{◌≡◌, refl, Bool, true, false, cond, ◌||◌, List, ◌++◌, ℕ, ◌≤◌, ◌<◌, ℤ, length, take, Ok, Err}
+use Rattle.std.specs.Result.{is_err}
 use Rattle.std.proofs.Common.{sym, ◌∙◌, arith}
 use Rattle.std.proofs.Math.Path.{ap}
-use borrow.Author.Tests.{ne_eqb, lt-ltb, le-ltb, lt-leb}
-use Rattle.network.specs.declared.Cause.{Cause}
-use Rattle.network.specs.declared.Verdict.{Verdict}
-use Rattle.network.specs.declared.Verdict.TheVariants.{Accepted, Refused}
-use Rattle.network.specs.CaseSplit.{by_lt}
+use Rattle.network.specs.Verdict.{Verdict}
+use Rattle.network.specs.CaseSplit.{by_lt, true≢false}
 use Rattle.network.specs.Network.{Side, start, end, Network, arc_count, most_nodes, most_arcs}
 use Rattle.network.specs.Refusal.{first_refusal, list_rows, map_rows, network_verdict, arcs_rows}
 use Rattle.network.specs.RefusalLaws.{rows_accepted}
@@ -15,12 +14,12 @@ use Rattle.network.specs.FrontLaws.{front_twice}
 use Rattle.index.specs.Index.{OneWay, Index, build_of, built_way, built_on, wrong_index, short_way, short_index}
 use Rattle.index.specs.Table.{build_rows, build_verdict}
 use Rattle.index.specs.Kept.{IndexLeft, builds, BuildKept}
-use Rattle.index.specs.HeldLaws.{built_right}
+use Rattle.index.specs.HeldLaws.{built_right, arcs_as_long, begins_as_long}
 use Rattle.district.specs.declared.Reader.{Reader}
 use Rattle.district.specs.File.{Told, size_owed, potentials_owed}
 use Rattle.district.specs.Reader.{Lists, told_by, own_verdict, network_told, network_read, built_under, index_kept, RoomyIndex}
 use Rattle.district.specs.Inner.{AllRead, Indexable, index_by}
-use Rattle.district.specs.ReaderLaws.{with_all}
+use Rattle.district.specs.ReaderLaws.{with_all, as_roomy}
 
 -- ---- an index that is built
 -- where it is built already, building it changes nothing
@@ -45,7 +44,7 @@ module _ (g : Network) (ix : Index) (few : g.nodes ≤ most_nodes) (fewer : arc_
       )
 
   -- so the index of an accepted network can be built there
-  pub can_be_built : (h k : List ℤ) → network_verdict g h k ≡ Accepted → build_verdict g ix ≡ Accepted
+  pub can_be_built : (h k : List ℤ) → network_verdict g h k ≡ Ok tt → build_verdict g ix ≡ Ok tt
   unfolding network_verdict list_rows map_rows build_verdict build_rows arcs_rows first_refusal
   can_be_built h k e =
       let row = rows_accepted (list_rows g h k ++ map_rows g h k) e in
@@ -58,8 +57,8 @@ unfolding index_kept
 index_waits t ix owed = rw (ne_eqb t.nodes 0 (λ e. omega arith), lt-ltb _ _ owed)
 
 under_twice : (v : Verdict) (g : Network) (ix : Index) → built_under v g (built_under v g ix) ≡ built_under v g ix
-under_twice Accepted g ix = built_twice g ix
-under_twice (Refused c) g ix = refl
+under_twice (Ok _) g ix = built_twice g ix
+under_twice (Err c) g ix = refl
 
 index_twice : (t : Told) (ix : Index) → index_kept t (index_kept t ix) ≡ index_kept t ix
 unfolding index_kept
@@ -77,6 +76,11 @@ index_twice t ix = go (size_owed t || potentials_owed t)
 pub index_stays : (t : Told) (ix ix' : Index) → ix' ≡ index_kept t ix → index_kept t ix' ≡ ix'
 index_stays t ix ix' e = ap (index_kept t) e ∙ (index_twice t ix ∙ sym e)
 
+-- a verdict that is no refusal accepts
+not_refused : (v : Verdict) → is_err v ≡ false → v ≡ Ok tt
+not_refused (Ok _) h = refl
+not_refused (Err c) h = absurd (true≢false refl h)
+
 -- ---- the same by the reader's counts
 module _ (r : Reader) (tails heads weights : List ℕ) (ix : Index) where
   -- potentials are still owed, or the network is not accepted: nothing is built
@@ -84,17 +88,45 @@ module _ (r : Reader) (tails heads weights : List ℕ) (ix : Index) where
   unfolding index_by
   index_not_yet owed = rw (lt-ltb _ _ owed)
 
-  pub index_of_refused : {c : Cause} → r.nodes ≤ r.nodes_read → r.verdict ≡ Refused c → ix ≡ index_by r tails heads weights ix
+  pub index_of_refused : r.nodes ≤ r.nodes_read → is_err r.verdict ≡ true → ix ≡ index_by r tails heads weights ix
   unfolding index_by
-  index_of_refused each refused = rw (le-ltb _ _ each, refused)
+  index_of_refused each refused = rw (le-ltb _ _ each) (go r.verdict refused)
+    where
+      go : (v : Verdict) → is_err v ≡ true → ix ≡ built_under v (network_read r tails heads weights) ix
+      go (Ok _) h = absurd (true≢false h refl)
+      go (Err c) h = refl
 
   -- else what a build leaves
-  pub index_built : {after : Index} {v : Verdict} → Indexable r tails heads weights ix → r.nodes ≤ r.nodes_read → r.verdict ≡ Accepted
+  pub index_built : {after : Index} {v : Verdict} → Indexable r tails heads weights ix → r.nodes ≤ r.nodes_read → is_err r.verdict ≡ false
       → BuildKept (network_read r tails heads weights) ix after v → after ≡ index_by r tails heads weights ix
   unfolding index_by builds
-  index_built {after} can each accepted kept =
+  index_built {after} can each passed kept =
+      let accepted : r.verdict ≡ Ok tt = not_refused r.verdict passed in
       let leaves : after ≡ (builds (network_read r tails heads weights) ix).index = ap (λ (x : IndexLeft). x.index) kept.leaves in
       rw (le-ltb _ _ each, accepted) (leaves ∙ rw (can.sound each accepted))
+
+  -- which leaves lists that have as much room
+  pub still_roomy : Indexable r tails heads weights ix → RoomyIndex ix → RoomyIndex (index_by r tails heads weights ix)
+  unfolding index_by built_on
+  still_roomy can room =
+      by_lt r.nodes_read r.nodes
+      (λ owed. rw (lt-ltb _ _ owed) room)
+      (λ each. rw (le-ltb _ _ each) (go each r.verdict refl))
+    where
+      g : Network
+      g = network_read r tails heads weights
+
+      go : r.nodes ≤ r.nodes_read → (v : Verdict) → r.verdict ≡ v → RoomyIndex (built_under v g ix)
+      go each (Err c) e = room
+      go each (Ok _) e =
+          let accepted = can.sound each e in
+          as_roomy room
+          (record {
+            out_arcs = arcs_as_long g ix accepted start;
+            out_begins = begins_as_long g ix accepted start;
+            in_arcs = arcs_as_long g ix accepted end;
+            in_begins = begins_as_long g ix accepted end;
+          })
 
 module _ (r : Reader) (l : Lists) (counted : length (take r.nodes_read l.forward) ≡ r.nodes_read)
     (judged : r.verdict ≡ own_verdict r l.tails l.heads l.weights l.forward l.backward) where
@@ -114,7 +146,7 @@ module _ (r : Reader) (l : Lists) (counted : length (take r.nodes_read l.forward
       (λ each. rw (le-ltb _ _ each) (sym (index_whole ix (record { some = some; each = each }))))
 
   -- a query on an accepted network finds the index that its arcs build
-  pub kept_right : index_kept (told_by r l) l.index ≡ l.index → AllRead r → r.verdict ≡ Accepted → wrong_index (network_read r l.tails l.heads l.weights) l.index ≡ false
+  pub kept_right : index_kept (told_by r l) l.index ≡ l.index → AllRead r → r.verdict ≡ Ok tt → wrong_index (network_read r l.tails l.heads l.weights) l.index ≡ false
   kept_right kept all accepted =
       let g = network_read r l.tails l.heads l.weights in
       let built : built_on g l.index ≡ l.index = sym (ap (λ v. built_under v g l.index) accepted) ∙ (sym (index_whole l.index all) ∙ kept) in

@@ -1,9 +1,8 @@
 -- What the inner functions of this crate ask and promise: steps that change no list or some of them, and what is known of a
 -- reader where each kind of frame is taken. Nothing outside the crate rests on it. Definitions only. Assumes nothing.
-use Rattle.std.specs.Prelude.{◌≡◌, Bool, false, cond, not, ◌&&◌, ◌||◌, List, ℕ, ◌+◌, ◌≤◌, ◌<◌, eqb, ltb, ℤ, length}
-use Rattle.network.specs.declared.Verdict.{Verdict}
-use Rattle.network.specs.declared.Verdict.TheVariants.{Accepted}
-use Rattle.network.specs.Network.{Network, most_nodes, most_arcs}
+use Rattle.std.specs.Prelude.{◌≡◌, Bool, false, cond, not, ◌&&◌, ◌||◌, List, ℕ, ◌+◌, ◌≤◌, ◌<◌, eqb, ltb, ℤ, length, set, Ok}
+use Rattle.network.specs.Verdict.{Verdict}
+use Rattle.network.specs.Network.{Network, most_arcs, most_nodes}
 use Rattle.network.specs.Refusal.{list_verdict, network_verdict}
 use Rattle.index.specs.Index.{Index, short_index, wrong_index}
 use Rattle.index.specs.Table.{build_verdict}
@@ -12,8 +11,10 @@ use Rattle.frames.specs.declared.Frame.TheVariants.{Arc}
 use Rattle.frames.specs.AnswerLines.{line_feed}
 use Rattle.district.specs.declared.Reader.{Reader}
 use Rattle.district.specs.declared.Taken.{Taken}
+use Rattle.district.specs.declared.FileLists.{FileLists}
 use Rattle.district.specs.File.{File, FileStep, last_line}
-use Rattle.district.specs.Reader.{Lists, lists, file_of, network_read, built_under, RoomyIndex, Kept, Stepped}
+use Rattle.district.specs.Reader.{Lists, lists, file_of, network_read, built_under, Kept, Stepped, RoomyIndex}
+use Rattle.district.specs.Lists.{lists_beside}
 
 -- ---- readers
 -- the reader at the beginning of the next line
@@ -33,7 +34,7 @@ next_reader r =
     }
 
 -- the reader with this verdict on its network
-unfoldable pub with_verdict : Reader → Verdict → Reader
+abbrev pub with_verdict : Reader → Verdict → Reader
 with_verdict r verdict =
     record {
       line = r.line;
@@ -58,10 +59,10 @@ pub record SteppedLine (s : File → FileStep) (r : Reader) (t : Taken) (line li
   pub law : (tails heads weights : List ℕ) (ix : Index) (h k : List ℤ) → Kept r (lists line tails heads weights ix h k)
       → Stepped (s (file_of r (lists line tails heads weights ix h k))) t (lists line tails heads weights ix h k) (lists line' tails heads weights ix h k) room room_after
 
--- the same of a step that changes the arc lists only
-pub record SteppedArcs (s : File → FileStep) (r : Reader) (t : Taken) (tails heads weights tails' heads' weights' room room_after : List ℕ) : Type 0 where
-  pub law : (line : List ℕ) (ix : Index) (h k : List ℤ) → Kept r (lists line tails heads weights ix h k)
-      → Stepped (s (file_of r (lists line tails heads weights ix h k))) t (lists line tails heads weights ix h k) (lists line tails' heads' weights' ix h k) room room_after
+-- the same of a step that leaves the index alone
+pub record SteppedArcs (s : File → FileStep) (r : Reader) (t : Taken) (l after : FileLists) (room room_after : List ℕ) : Type 0 where
+  pub law : (ix : Index) → Kept r (lists_beside l ix)
+      → Stepped (s (file_of r (lists_beside l ix))) t (lists_beside l ix) (lists_beside after ix) room room_after
 
 -- the same of a step that changes the potential lists and the index only
 pub record SteppedPotentials (s : File → FileStep) (r : Reader) (t : Taken) (tails heads weights : List ℕ) (ix ix' : Index) (h k h' k' : List ℤ) (room room_after : List ℕ) : Type 0 where
@@ -74,13 +75,22 @@ abbrev pub NotLast : Reader → Type 0
 NotLast r = r.line < last_line
 
 -- an arc more can be taken: the reader counts fewer than the 01 states, and the lists have room for all of them
-pub record ArcsOpen (r : Reader) (tails heads weights : List ℕ) : Type 0 where
+pub record ArcsOpen (r : Reader) (l : FileLists) : Type 0 where
   pub not_last : r.line < last_line
   pub owed : r.arcs_read < r.arcs
   pub few : r.arcs ≤ most_arcs
-  pub for_tails : most_arcs ≤ length tails
-  pub for_heads : most_arcs ≤ length heads
-  pub for_weights : most_arcs ≤ length weights
+  pub for_tails : most_arcs ≤ length l.tails.now
+  pub for_heads : most_arcs ≤ length l.heads.now
+  pub for_weights : most_arcs ≤ length l.weights.now
+
+-- the lists of arcs get an arc's entries, and the other lists stay
+pub record ArcPut (l after : FileLists) (at tail head weight : ℕ) : Type 0 where
+  pub tails : after.tails.now ≡ set l.tails.now at tail
+  pub heads : after.heads.now ≡ set l.heads.now at head
+  pub weights : after.weights.now ≡ set l.weights.now at weight
+  pub line : after.line.now ≡ l.line.now
+  pub forward : after.forward.now ≡ l.forward.now
+  pub backward : after.backward.now ≡ l.backward.now
 
 -- a node's potentials can be taken
 pub record PotentialsOpen (r : Reader) (tails heads weights : List ℕ) (ix : Index) (forward backward : List ℤ) : Type 0 where
@@ -97,13 +107,13 @@ pub record PotentialsOpen (r : Reader) (tails heads weights : List ℕ) (ix : In
   pub for_backward : most_nodes ≤ length backward
 
 -- as many entries of each list as the reader counts are there, and at least one node's
-pub record Read (r : Reader) (tails heads weights : List ℕ) (forward backward : List ℤ) : Type 0 where
+pub record Read (r : Reader) (l : FileLists) : Type 0 where
   pub some : 0 < r.nodes
-  pub in_tails : r.arcs_read ≤ length tails
-  pub in_heads : r.arcs_read ≤ length heads
-  pub in_weights : r.arcs_read ≤ length weights
-  pub in_forward : r.nodes_read ≤ length forward
-  pub in_backward : r.nodes_read ≤ length backward
+  pub in_tails : r.arcs_read ≤ length l.tails.now
+  pub in_heads : r.arcs_read ≤ length l.heads.now
+  pub in_weights : r.arcs_read ≤ length l.weights.now
+  pub in_forward : r.nodes_read ≤ length l.forward.now
+  pub in_backward : r.nodes_read ≤ length l.backward.now
 
 -- the network and all potentials are read
 pub record AllRead (r : Reader) : Type 0 where
@@ -115,7 +125,7 @@ pub record Indexable (r : Reader) (tails heads weights : List ℕ) (ix : Index) 
   pub in_tails : r.arcs_read ≤ length tails
   pub in_heads : r.arcs_read ≤ length heads
   pub in_weights : r.arcs_read ≤ length weights
-  pub sound : r.nodes ≤ r.nodes_read → r.verdict ≡ Accepted → build_verdict (network_read r tails heads weights) ix ≡ Accepted
+  pub sound : r.nodes ≤ r.nodes_read → r.verdict ≡ Ok tt → build_verdict (network_read r tails heads weights) ix ≡ Ok tt
 
 -- what the index lists hold, by the reader's counts and its network's own verdict
 unfoldable pub index_by : Reader → List ℕ → List ℕ → List ℕ → Index → Index
@@ -125,10 +135,10 @@ index_by r tails heads weights ix =
 -- a verdict is the own verdict of a network with sound lists; its index lists are long enough, and where it is accepted they hold
 -- what its arcs build
 pub record Known (own : Verdict) (g : Network) (ix : Index) (h k : List ℤ) : Type 0 where
-  pub lists_sound : list_verdict g h k ≡ Accepted
+  pub lists_sound : list_verdict g h k ≡ Ok tt
   pub own_is : own ≡ network_verdict g h k
   pub index_long : short_index g ix ≡ false
-  pub index_right : own ≡ Accepted → wrong_index g ix ≡ false
+  pub index_right : own ≡ Ok tt → wrong_index g ix ≡ false
 
 -- a frame is not of kind 02
 pub record NoArc (g : Frame) : Type 0 where

@@ -1,18 +1,15 @@
 -- The last line that a file prints is the FF line of 1, 2, 10 or 11 exactly when the rules (docs/RULES.md, "Input order") give
 -- that refusal of the file. The argument: no line that is printed for a query is an FF line with such a number, and the FF line of
 -- a refusal determines it. Assumes nothing.
-use Rattle.std.specs.Prelude.{◌≡◌, ◌↔◌, Bool, take}
+use Rattle.std.specs.Prelude.{◌≡◌, ◌↔◌, Bool, take, Ok, Err, List, [], ◌∷◌, ◌++◌, ℕ, ◌-◌, ◌≤◌}
 use Rattle.std.proofs.Math.Path.{refl, subst}
 use Rattle.std.proofs.Common.{sym, ap, ◌∙◌, arith, take_at}
-use mathlib.Core.List.{List, [], ◌∷◌, ◌++◌}
-use Prim.Native.Nat.{ℕ, ◌-◌, ◌≤◌}
 use Rattle.std.proofs.Math.ListN.{length, length-append}
 use Rattle.std.proofs.Math.Seq.{get_or-append_seam}
 use Rattle.network.specs.declared.Cause.{Cause}
 use Rattle.network.specs.declared.Cause.TheVariants.{NodeCount, ArcLists, PotentialLists, StartOrEnd, Pattern, Room, BadArc, BadPotential, Inconsistent, UnsoundLine, MisplacedLine, NoSuchArc, WrongIndex}
 use Rattle.network.specs.declared.Answer.TheVariants.{Refused as Refusal}
-use Rattle.network.specs.declared.Verdict.{Verdict}
-use Rattle.network.specs.declared.Verdict.TheVariants.{Accepted, Refused}
+use Rattle.network.specs.Verdict.{Verdict}
 use Rattle.network.specs.Answer.{number_of, place_of}
 use Rattle.network.specs.CaseSplit.{by_lt}
 use Rattle.frames.specs.AnswerLines.{line_feed, line_of, answer_lines}
@@ -62,7 +59,7 @@ module _ (single : Bool) (first : ℕ) (bytes : List ℕ) where
   given_low low WrongIndex g = absurd g
 
   -- a file that is taken whole ends in no such line
-  last_accepted : (outcome_of single first bytes).verdict ≡ Accepted → NoFile (last_printed (answer_from single first bytes))
+  last_accepted : (outcome_of single first bytes).verdict ≡ Ok tt → NoFile (last_printed (answer_from single first bytes))
   unfolding last_printed
   last_accepted e =
       let whole : TakenWhole single first bytes = (file_taken_whole single first bytes).0 e in
@@ -74,12 +71,12 @@ module _ (single : Bool) (first : ℕ) (bytes : List ℕ) where
     last_given h = go (outcome_of single first bytes).verdict refl
       where
         go : (v : Verdict) → (outcome_of single first bytes).verdict ≡ v → GivenByCause single first bytes c
-        go (Refused d) e =
+        go (Err d) e =
             let g : GivenByCause single first bytes d = (file_refused_exactly_when single first bytes d).0 e in
             let same : Refusal d ≡ Refusal c = answer_determined (Refusal d) (Refusal c) [] [] (omega (arith, given_low low d g)) (omega arith) (sym (last_refused d g) ∙ h) in
             let cause : d ≡ c = cc in
             subst (λ (x : Cause). GivenByCause single first bytes x) cause g
-        go Accepted e =
+        go (Ok _) e =
             let text : last_printed (answer_from single first bytes) ≡ own_text (Refusal c) = same_text _ _ h in
             let none : NoFile (own_text (Refusal c)) = subst (λ (x : List ℕ). NoFile x) text (last_accepted e) in
             absurd (own (subst (λ (n : ℕ). QueryNumber n) (refusal_number c) (none.law (refusal_kind c))))

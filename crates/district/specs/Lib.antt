@@ -5,6 +5,7 @@ pub mod Lines
 pub mod FileGiven
 pub mod SecondQuery
 pub mod Reader
+pub mod Lists
 -- What the functions inside promise each other.
 pub mod Inner
 -- Why: the laws of all these. Nothing of it has to be believed, the checker reads it.

@@ -2,15 +2,14 @@
 -- judged in turn by its number and by what the lines before it told, and then the end of input. This is the short reading of a
 -- file; File reads the same file byte by byte, as the code does, and LinesLaws proves that the two print the same for all bytes.
 -- Definitions only. Assumes nothing.
-use Rattle.std.specs.Prelude.{Bool, true, false, cond, not, ◌&&◌, ◌||◌, List, [], ◌∷◌, ◌++◌, ℕ, ◌+◌, ◌-◌, eqb, ltb, leb, length}
+use Rattle.std.specs.Prelude.{Bool, true, false, cond, not, ◌&&◌, ◌||◌, List, [], ◌∷◌, ◌++◌, ℕ, ◌+◌, ◌-◌, eqb, ltb, leb, length, Ok, Err, Option, None, Some}
 use Rattle.network.specs.declared.Cause.TheVariants.{NodeCount, ArcLists, MisplacedLine}
-use Rattle.network.specs.declared.Verdict.{Verdict}
-use Rattle.network.specs.declared.Verdict.TheVariants.{Accepted, Refused}
+use Rattle.network.specs.Verdict.{Verdict}
 use Rattle.network.specs.declared.Answer.TheVariants.{Refused as Refusal}
 use Rattle.network.specs.Network.{most_nodes, most_arcs}
 use Rattle.network.specs.Refusal.{given, first_refusal}
 use Rattle.frames.specs.declared.Frame.{Frame}
-use Rattle.frames.specs.declared.Frame.TheVariants.{Size, Arc, TwoWay, Potentials, Query as QueryFrame, Unsound}
+use Rattle.frames.specs.declared.Frame.TheVariants.{Size, Arc, TwoWay, Potentials, Query as QueryFrame}
 use Rattle.frames.specs.Frame.{frame_of, pattern_of}
 use Rattle.frames.specs.AnswerLines.{line_feed, answer_lines}
 use Rattle.district.specs.File.{Told, nothing_told, last_line, wrong_cause, with_size, added_arcs, with_arcs, with_potentials, query_lines, query_on, with_query, size_owed, arcs_owed, potentials_owed, owing}
@@ -61,13 +60,13 @@ potentials_read t = arcs_read_by t && not (potentials_owed t)
 
 -- whether a frame may stand where this is told: a 01 where it is owed; a 02 where an arc is owed, and a 05 where two are; a 03
 -- after the arcs, for the next node; a 04 or a 07 after the potentials, in the display's file the first one only
-unfoldable pub may_stand : Bool → Told → Frame → Bool
-may_stand single t (Size n m) = size_owed t
-may_stand single t (Arc a b w) = size_read t && leb 1 (owed_arcs t)
-may_stand single t (TwoWay a b w) = size_read t && leb 2 (owed_arcs t)
-may_stand single t (Potentials v h k) = arcs_read_by t && (potentials_owed t && eqb v (length t.forward))
-may_stand single t (QueryFrame s e c n) = potentials_read t && not (single && t.asked)
-may_stand single t Unsound = false
+unfoldable pub may_stand : Bool → Told → Option Frame → Bool
+may_stand single t (Some (Size n m)) = size_owed t
+may_stand single t (Some (Arc a b w)) = size_read t && leb 1 (owed_arcs t)
+may_stand single t (Some (TwoWay a b w)) = size_read t && leb 2 (owed_arcs t)
+may_stand single t (Some (Potentials v h k)) = arcs_read_by t && (potentials_owed t && eqb v (length t.forward))
+may_stand single t (Some (QueryFrame s e c n)) = potentials_read t && not (single && t.asked)
+may_stand single t None = false
 
 -- ---- what each line is refused for
 -- the counts that a 01 may not state
@@ -78,17 +77,17 @@ abbrev pub bad_arcs : ℕ → Bool
 bad_arcs m = ltb most_arcs m
 
 -- a 01 with a bad node count is 1, and with a bad arc count 2
-abbrev pub size_verdict : Frame → Verdict
-size_verdict (Size n m) = first_refusal (given (bad_nodes n) NodeCount ∷ given (bad_arcs m) ArcLists ∷ [])
-size_verdict (Arc a b w) = Accepted
-size_verdict (TwoWay a b w) = Accepted
-size_verdict (Potentials v h k) = Accepted
-size_verdict (QueryFrame s e c n) = Accepted
-size_verdict Unsound = Accepted
+abbrev pub size_verdict : Option Frame → Verdict
+size_verdict (Some (Size n m)) = first_refusal (given (bad_nodes n) NodeCount ∷ given (bad_arcs m) ArcLists ∷ [])
+size_verdict (Some (Arc a b w)) = Ok tt
+size_verdict (Some (TwoWay a b w)) = Ok tt
+size_verdict (Some (Potentials v h k)) = Ok tt
+size_verdict (Some (QueryFrame s e c n)) = Ok tt
+size_verdict None = Ok tt
 
 -- the frame of line n, where this is told: line 4,294,967,295 is 11, sound or not; then no sound frame is 10, and one that may
 -- not stand there is 11; then come the counts of a 01. Any other line is taken
-unfoldable pub frame_verdict : Bool → ℕ → Told → Frame → Verdict
+unfoldable pub frame_verdict : Bool → ℕ → Told → Option Frame → Verdict
 frame_verdict single n t g =
     first_refusal (given (eqb n last_line) (MisplacedLine n) ∷ given (not (may_stand single t g)) (wrong_cause g n) ∷ size_verdict g ∷ [])
 
@@ -96,26 +95,26 @@ frame_verdict single n t g =
 -- is missing there
 unfoldable pub end_verdict : Bool → ℕ → Told → List ℕ → Verdict
 end_verdict single n t [] = given (owing t) (MisplacedLine n)
-end_verdict single n t (b ∷ rest) = frame_verdict single n t Unsound
+end_verdict single n t (b ∷ rest) = frame_verdict single n t None
 
 -- ---- what each line adds and prints
 -- what is told after a frame that is taken
-unfoldable pub told_with : Told → Frame → Told
-told_with t (Size n m) = with_size t n m
-told_with t (Arc a b w) = with_arcs t (added_arcs (Arc a b w))
-told_with t (TwoWay a b w) = with_arcs t (added_arcs (TwoWay a b w))
-told_with t (Potentials v h k) = with_potentials t h k
-told_with t (QueryFrame s e c n) = with_query t
-told_with t Unsound = t
+unfoldable pub told_with : Told → Option Frame → Told
+told_with t (Some (Size n m)) = with_size t n m
+told_with t (Some (Arc a b w)) = with_arcs t (added_arcs (Some (Arc a b w)))
+told_with t (Some (TwoWay a b w)) = with_arcs t (added_arcs (Some (TwoWay a b w)))
+told_with t (Some (Potentials v h k)) = with_potentials t h k
+told_with t (Some (QueryFrame s e c n)) = with_query t
+told_with t None = t
 
 -- what is printed for a frame that is taken: the answer of a query, whose pattern the line spells, and nothing for any other
-unfoldable pub printed_for : Told → List ℕ → Frame → List ℕ
-printed_for t line (QueryFrame s e c n) = query_lines c (query_on t s e (pattern_of line))
-printed_for t line (Size n m) = []
-printed_for t line (Arc a b w) = []
-printed_for t line (TwoWay a b w) = []
-printed_for t line (Potentials v h k) = []
-printed_for t line Unsound = []
+unfoldable pub printed_for : Told → List ℕ → Option Frame → List ℕ
+printed_for t line (Some (QueryFrame s e c n)) = query_lines c (query_on t s e (pattern_of line))
+printed_for t line (Some (Size n m)) = []
+printed_for t line (Some (Arc a b w)) = []
+printed_for t line (Some (TwoWay a b w)) = []
+printed_for t line (Some (Potentials v h k)) = []
+printed_for t line None = []
 
 -- ---- the whole file
 -- what a file comes to: the lines printed for its queries, and the refusal that ended it, if one did
@@ -125,8 +124,8 @@ pub record Outcome : Type 0 where
 
 -- a line that is refused ends the file; after one that is taken the next is read
 abbrev pub then_on : Verdict → List ℕ → Outcome → Outcome
-then_on (Refused c) printed later = record { answers = []; verdict = Refused c }
-then_on Accepted printed later = record { answers = printed ++ later.answers; verdict = later.verdict }
+then_on (Err c) printed later = record { answers = []; verdict = Err c }
+then_on (Ok _) printed later = record { answers = printed ++ later.answers; verdict = later.verdict }
 
 -- the lines from line n on, where this is told before them, and the end of input
 unfoldable pub read_lines : Bool → ℕ → Told → List (List ℕ) → List ℕ → Outcome
@@ -141,8 +140,8 @@ outcome_of single first bytes = read_lines single first nothing_told (lines_of b
 
 -- the FF line of a refusal, and nothing where there is none
 abbrev pub refusal_line : Verdict → List ℕ
-refusal_line Accepted = []
-refusal_line (Refused c) = answer_lines (Refusal c) []
+refusal_line (Ok _) = []
+refusal_line (Err c) = answer_lines (Refusal c) []
 
 -- what a file prints: the answers of its queries, and then the FF line of the refusal that ended it, if one did
 abbrev pub printed_of : Outcome → List ℕ

@@ -1,11 +1,10 @@
 -- Files read by lines, each with the refusal that ends it, or with none. One list, and one proof over it by computation. Above
 -- each file stand the wrong readings that end it otherwise. Assumes nothing.
-use Rattle.std.specs.Prelude.{◌≡◌, refl, Bool, true, false, List, [], ◌∷◌, ◌++◌, map, ℕ, replicate}
+use Rattle.std.specs.Prelude.{◌≡◌, refl, Bool, true, false, List, [], ◌∷◌, ◌++◌, map, ℕ, replicate, Ok, Err}
 use Prim.Native.Char.{code}
 use Prim.Native.String.{String, [] as none, ◌∷◌ as ◌then◌}
 use Rattle.network.specs.declared.Cause.TheVariants.{NodeCount, ArcLists, UnsoundLine, MisplacedLine}
-use Rattle.network.specs.declared.Verdict.{Verdict}
-use Rattle.network.specs.declared.Verdict.TheVariants.{Accepted, Refused}
+use Rattle.network.specs.Verdict.{Verdict}
 use Rattle.network.specs.Refusal.{first_refusal}
 use Rattle.frames.specs.Digits.{value_of, are_digits, number_from, number_at}
 use Rattle.frames.specs.Signed.{signed_of}
@@ -39,31 +38,31 @@ small = "0100010000" ∷ "0300000000000000000000" ∷ "0400000000010" ∷ []
 abbrev cases : List LinesCase
 cases =
     -- no byte: the 01 is missing. Who counts lines from 0 answers line 0
-    file [] (Refused (MisplacedLine 1))
+    file [] (Err (MisplacedLine 1))
     -- a whole file, and one with a piece of a line behind it: who forgets the piece answers nothing
-    ∷ file (lines small) Accepted
-    ∷ file (lines small ++ bytes "04") (Refused (UnsoundLine 4))
+    ∷ file (lines small) (Ok tt)
+    ∷ file (lines small ++ bytes "04") (Err (UnsoundLine 4))
     -- a line of 272 digits, with and without its line feed: who judges whole lines only answers 11
-    ∷ file (replicate 272 48 ++ (line_feed ∷ [])) (Refused (UnsoundLine 1))
-    ∷ file (replicate 272 48) (Refused (UnsoundLine 1))
+    ∷ file (replicate 272 48 ++ (line_feed ∷ [])) (Err (UnsoundLine 1))
+    ∷ file (replicate 272 48) (Err (UnsoundLine 1))
     -- bad counts: who gives the line answers 11 at line 1
-    ∷ file (lines ("0108012001" ∷ [])) (Refused NodeCount)
-    ∷ file (lines ("0108002001" ∷ [])) (Refused ArcLists)
+    ∷ file (lines ("0108012001" ∷ [])) (Err NodeCount)
+    ∷ file (lines ("0108002001" ∷ [])) (Err ArcLists)
     -- a 05 where two arcs are owed, and where one is
-    ∷ file (lines ("0100010002" ∷ "050000000000000001" ∷ [])) (Refused (MisplacedLine 3))
-    ∷ file (lines ("0100010001" ∷ "050000000000000001" ∷ [])) (Refused (MisplacedLine 2))
+    ∷ file (lines ("0100010002" ∷ "050000000000000001" ∷ [])) (Err (MisplacedLine 3))
+    ∷ file (lines ("0100010001" ∷ "050000000000000001" ∷ [])) (Err (MisplacedLine 2))
     -- no sound frame where a sound one may not stand either: who tests the order first answers 11
-    ∷ file (lines ("0100010001" ∷ "03" ∷ [])) (Refused (UnsoundLine 2))
+    ∷ file (lines ("0100010001" ∷ "03" ∷ [])) (Err (UnsoundLine 2))
     -- a second query, 04 or 07, for the display and for `routeline`
-    ∷ record { single = true; first = 1; given = lines (small ++ ("0400000000010" ∷ [])); verdict = Refused (MisplacedLine 4) }
-    ∷ record { single = true; first = 1; given = lines (small ++ ("07000000000000010" ∷ [])); verdict = Refused (MisplacedLine 4) }
-    ∷ file (lines (small ++ ("0400000000010" ∷ "07000000000000010" ∷ []))) Accepted
+    ∷ record { single = true; first = 1; given = lines (small ++ ("0400000000010" ∷ [])); verdict = Err (MisplacedLine 4) }
+    ∷ record { single = true; first = 1; given = lines (small ++ ("07000000000000010" ∷ [])); verdict = Err (MisplacedLine 4) }
+    ∷ file (lines (small ++ ("0400000000010" ∷ "07000000000000010" ∷ []))) (Ok tt)
     -- a 07 where potentials are owed: who lets it stand anywhere answers no refusal
-    ∷ file (lines ("0100010000" ∷ "07000000000000010" ∷ [])) (Refused (MisplacedLine 2))
+    ∷ file (lines ("0100010000" ∷ "07000000000000010" ∷ [])) (Err (MisplacedLine 2))
     -- line 4,294,967,295 is 11, sound or not, whole or in part
-    ∷ record { single = false; first = 4294967295; given = lines ("0100010000" ∷ []); verdict = Refused (MisplacedLine 4294967295) }
-    ∷ record { single = false; first = 4294967295; given = bytes "0"; verdict = Refused (MisplacedLine 4294967295) }
-    ∷ record { single = false; first = 4294967292; given = lines small; verdict = Accepted }
+    ∷ record { single = false; first = 4294967295; given = lines ("0100010000" ∷ []); verdict = Err (MisplacedLine 4294967295) }
+    ∷ record { single = false; first = 4294967295; given = bytes "0"; verdict = Err (MisplacedLine 4294967295) }
+    ∷ record { single = false; first = 4294967292; given = lines small; verdict = (Ok tt) }
     -- district D5 with the query of P1
     ∷ file
     (lines
@@ -80,7 +79,7 @@ cases =
     ∷ "0300040000000000000000"
     ∷ "04000000030201"
     ∷ []))
-    Accepted
+    (Ok tt)
     ∷ []
 
 unfoldable pub as_read : LinesCase → LinesCase

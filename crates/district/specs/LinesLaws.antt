@@ -2,18 +2,17 @@
 -- bytes. The argument for the second: within a line the byte reading holds what the line has so far, and what it still prints is
 -- what the rest of the file prints by lines with the held bytes ahead of it; a line feed judges the line as the frame's verdict
 -- does; and a line that is broken for its length is no sound frame, however it goes on. Assumes nothing.
-use Rattle.std.specs.Prelude.{◌≡◌, refl, Bool, true, false, not, ◌&&◌, List, [], ◌∷◌, ◌++◌, ℕ, zero, suc, ◌+◌, ◌≤◌, ◌<◌, eqb, ltb, leb, length, get_or}
+use Rattle.std.specs.Prelude.{◌≡◌, refl, Bool, true, false, not, ◌&&◌, List, [], ◌∷◌, ◌++◌, ℕ, zero, suc, ◌+◌, ◌≤◌, ◌<◌, eqb, ltb, leb, length, get_or, Ok, Err, Option, None, Some}
 use Rattle.std.proofs.Common.{sym, ap, ◌∙◌, append-nil, append_assoc, arith, length-append, eqb-true, ne_eqb, ltb-true, ltb-false}
 use Rattle.std.proofs.lemmas.Bool.{lt-leb}
 use Rattle.network.specs.declared.Cause.{Cause}
 use Rattle.network.specs.declared.Cause.TheVariants.{MisplacedLine}
-use Rattle.network.specs.declared.Verdict.{Verdict}
-use Rattle.network.specs.declared.Verdict.TheVariants.{Accepted, Refused}
+use Rattle.network.specs.Verdict.{Verdict}
 use Rattle.network.specs.declared.Answer.TheVariants.{Refused as Refusal}
 use Rattle.network.specs.CaseSplit.{by_bool, tests}
 use Rattle.network.specs.Refusal.{given, first_refusal}
 use Rattle.frames.specs.declared.Frame.{Frame}
-use Rattle.frames.specs.declared.Frame.TheVariants.{Size, Arc, TwoWay, Potentials, Query as QueryFrame, Unsound}
+use Rattle.frames.specs.declared.Frame.TheVariants.{Size, Arc, TwoWay, Potentials, Query as QueryFrame}
 use Rattle.frames.specs.Frame.{most_digits, frame_of}
 use Rattle.frames.specs.FrameCases.{too_long}
 use Rattle.frames.specs.AnswerLines.{line_feed, answer_lines}
@@ -81,44 +80,44 @@ abbrev reading : Bool → ℕ → Told → List ℕ → File
 reading single n t held = record { told = t; line = n; held = held; single = single; going = true }
 
 -- the step that a verdict on a line's frame asks for
-abbrev step_by : File → Frame → Verdict → FileStep
-step_by f g Accepted = taken f (told_with f.told g) (printed_for f.told f.held g)
-step_by f g (Refused c) = refused f c
+abbrev step_by : File → Option Frame → Verdict → FileStep
+step_by f g (Ok _) = taken f (told_with f.told g) (printed_for f.told f.held g)
+step_by f g (Err c) = refused f c
 
 module _ (single : Bool) (n : ℕ) (t : Told) (held : List ℕ) where
   no_arcs_owed : (k : ℕ) → arcs_owed t ≡ false → 0 < k → leb k (owed_arcs t) ≡ false
   no_arcs_owed k e h = lt-leb k (owed_arcs t) (omega (arith, tests))
 
   -- a frame where line 4,294,967,295 is not
-  frame_step : (g : Frame) → take_frame (reading single n t held) g ≡ step_by (reading single n t held) g (first_refusal (given (not (may_stand single t g)) (wrong_cause g n) ∷ size_verdict g ∷ []))
+  frame_step : (g : Option Frame) → take_frame (reading single n t held) g ≡ step_by (reading single n t held) g (first_refusal (given (not (may_stand single t g)) (wrong_cause g n) ∷ size_verdict g ∷ []))
   unfolding take_frame take_size take_arcs take_potentials take_query may_stand told_with printed_for first_refusal
-  frame_step (Size a b) =
+  frame_step (Some (Size a b)) =
       by_bool (size_owed t)
       (λ e. rw e (by_bool (bad_nodes a) (λ p. rw p) (λ p. rw p (by_bool (bad_arcs b) (λ q. rw q) (λ q. rw q)))))
       (λ e. rw e (by_bool (arcs_owed t) (λ p. rw p) (λ p. rw p (by_bool (potentials_owed t) (λ q. rw q) (λ q. rw q)))))
-  frame_step (Arc a b w) =
+  frame_step (Some (Arc a b w)) =
       by_bool (size_owed t) (λ e. rw e)
       (λ e. rw e
       (by_bool (arcs_owed t) (λ p. rw p (by_bool (leb 1 (owed_arcs t)) (λ q. rw q) (λ q. rw q)))
       (λ p. rw (p, no_arcs_owed 1 p (omega arith)) (by_bool (potentials_owed t) (λ q. rw q) (λ q. rw q)))))
-  frame_step (TwoWay a b w) =
+  frame_step (Some (TwoWay a b w)) =
       by_bool (size_owed t) (λ e. rw e)
       (λ e. rw e
       (by_bool (arcs_owed t) (λ p. rw p (by_bool (leb 2 (owed_arcs t)) (λ q. rw q) (λ q. rw q)))
       (λ p. rw (p, no_arcs_owed 2 p (omega arith)) (by_bool (potentials_owed t) (λ q. rw q) (λ q. rw q)))))
-  frame_step (Potentials v h k) =
+  frame_step (Some (Potentials v h k)) =
       by_bool (size_owed t) (λ e. rw e)
       (λ e. rw e
       (by_bool (arcs_owed t) (λ p. rw p)
       (λ p. rw p
       (by_bool (potentials_owed t) (λ q. rw q (by_bool (eqb v (length t.forward)) (λ r. rw r) (λ r. rw r))) (λ q. rw q)))))
-  frame_step (QueryFrame s e c k) =
+  frame_step (Some (QueryFrame s e c k)) =
       by_bool (size_owed t) (λ p. rw p)
       (λ p. rw p
       (by_bool (arcs_owed t) (λ q. rw q)
       (λ q. rw q
       (by_bool (potentials_owed t) (λ r. rw r) (λ r. rw r (by_bool (single && t.asked) (λ x. rw x) (λ x. rw x)))))))
-  frame_step Unsound =
+  frame_step None =
       by_bool (size_owed t) (λ p. rw p)
       (λ p. rw p (by_bool (arcs_owed t) (λ q. rw q) (λ q. rw q (by_bool (potentials_owed t) (λ r. rw r) (λ r. rw r)))))
 
@@ -131,7 +130,7 @@ module _ (single : Bool) (n : ℕ) (t : Told) (held : List ℕ) where
       (λ e. rw e (frame_step (frame_of held)))
 
   -- a broken line is refused as no sound frame is
-  broken_step : broken_line (reading single n t held) ≡ step_by (reading single n t held) Unsound (frame_verdict single n t Unsound)
+  broken_step : broken_line (reading single n t held) ≡ step_by (reading single n t held) None (frame_verdict single n t None)
   unfolding broken_line frame_verdict first_refusal may_stand
   broken_step =
       by_bool (eqb n last_line)
@@ -139,15 +138,15 @@ module _ (single : Bool) (n : ℕ) (t : Told) (held : List ℕ) where
       (λ e. rw e)
 
   -- no sound frame ends the file, whatever follows
-  broken_ends : (printed : List ℕ) (later : Outcome) → printed_of (then_on (frame_verdict single n t Unsound) printed later) ≡ refusal_line (frame_verdict single n t Unsound)
+  broken_ends : (printed : List ℕ) (later : Outcome) → printed_of (then_on (frame_verdict single n t None) printed later) ≡ refusal_line (frame_verdict single n t None)
   unfolding frame_verdict first_refusal may_stand
   broken_ends printed later = by_bool (eqb n last_line) (λ e. rw e) (λ e. rw e)
 
-  broken_printed : (broken_line (reading single n t held)).printed ≡ refusal_line (frame_verdict single n t Unsound)
+  broken_printed : (broken_line (reading single n t held)).printed ≡ refusal_line (frame_verdict single n t None)
   unfolding refused frame_verdict first_refusal may_stand
   broken_printed = rw broken_step (by_bool (eqb n last_line) (λ e. rw e) (λ e. rw e))
 
-  broken_rest : (bytes : List ℕ) → (broken_line (reading single n t held)).printed ++ rest_of (broken_line (reading single n t held)).file bytes ≡ refusal_line (frame_verdict single n t Unsound)
+  broken_rest : (bytes : List ℕ) → (broken_line (reading single n t held)).printed ++ rest_of (broken_line (reading single n t held)).file bytes ≡ refusal_line (frame_verdict single n t None)
   unfolding frame_verdict first_refusal may_stand
   broken_rest bytes =
       rw broken_step
@@ -175,12 +174,12 @@ printed_by single n t l = printed_of (read_lines single n t l.whole l.rest)
 
 -- lines of which the first is longer than any frame
 overlong : (single : Bool) (n : ℕ) (t : Told) (long : List ℕ) (whole : List (List ℕ)) (rest : List ℕ) → most_digits < length long
-    → printed_by single n t (began_with long whole rest) ≡ refusal_line (frame_verdict single n t Unsound)
+    → printed_by single n t (began_with long whole rest) ≡ refusal_line (frame_verdict single n t None)
 unfolding read_lines end_verdict
 overlong single n t [] [] rest h = absurd (omega arith)
 overlong single n t (x ∷ long) [] rest h = refl
 overlong single n t long (line ∷ more) rest h =
-    let unsound : Unsound ≡ frame_of (long ++ line) = too_long (long ++ line) (omega (arith, length-append long line)) in
+    let unsound : None ≡ frame_of (long ++ line) = too_long (long ++ line) (omega (arith, length-append long line)) in
     rw (← unsound) (broken_ends single n t [] _ _)
 
 -- ---- the whole file
@@ -194,8 +193,8 @@ line_by_lines single n t held bytes whole rest later = rw (line_step single n t 
   where
     go : (v : Verdict) → (step_by (reading single n t held) (frame_of held) v).printed ++ rest_of (step_by (reading single n t held) (frame_of held) v).file bytes
         ≡ printed_of (then_on v (printed_for t held (frame_of held)) (read_lines single (n + 1) (told_with t (frame_of held)) whole rest))
-    go (Refused c) = refused_rest (reading single n t held) c bytes
-    go Accepted =
+    go (Err c) = refused_rest (reading single n t held) c bytes
+    go (Ok _) =
         rw (later (told_with t (frame_of held)))
         (sym (append_assoc (printed_for t held (frame_of held)) _ _))
 

@@ -3,7 +3,7 @@
 use Rattle.std.specs.Prelude.{◌≡◌, refl, Bool, true, false, ◌||◌, List, [], ◌∷◌, ◌++◌, ℕ, ◌≤◌, eqb, length}
 use Rattle.std.proofs.Math.Bool.{or-true}
 use Rattle.std.proofs.Common.{arith, length-append}
-use Rattle.network.specs.declared.Cap.{Cap}
+use Rattle.network.specs.Cap.{Cap}
 use Rattle.network.specs.declared.Cause.{Cause}
 use Rattle.network.specs.declared.Cause.TheVariants.{MisplacedLine}
 use Rattle.network.specs.declared.Answer.{Answer}

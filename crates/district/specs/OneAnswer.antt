@@ -1,12 +1,11 @@
 -- Each public function's contract admits a single answer: whatever two runs on the same input return and leave in the lent
 -- lists, they are the same. Assumes nothing.
-use Rattle.std.specs.Prelude.{◌≡◌, Bool, ◌||◌, List, ℕ, ◌+◌, ◌≤◌, eqb, take, drop}
+use Rattle.std.specs.Prelude.{◌≡◌, Bool, ◌||◌, List, ℕ, ◌+◌, ◌≤◌, eqb, take, drop, Ok}
 use Rattle.std.proofs.Math.Path.{sym, ap}
 use Rattle.std.proofs.Common.{◌∙◌, take-append-drop}
 use Rattle.std.proofs.Math.Bool.{cond}
 use Rattle.std.proofs.Math.Dec.{ltb}
 use Rattle.std.proofs.Math.ListN.{length}
-use Rattle.network.specs.declared.Verdict.TheVariants.{Accepted}
 use Rattle.network.specs.Network.{network}
 use Rattle.network.specs.Refusal.{network_verdict}
 use Rattle.frames.specs.Frame.{most_digits}
@@ -58,7 +57,7 @@ module _ (s : FileStep) (l : Lists) (room : List ℕ) (t u : Taken) (a b : Lists
       let forward : a.forward ≡ b.forward = same_list _ _ _ _ l.forward same_nodes_read (ap (λ (f : File). f.told.forward) same_file) p.beyond.forward q.beyond.forward in
       let backward : a.backward ≡ b.backward = same_list _ _ _ _ l.backward same_nodes_read (ap (λ (f : File). f.told.backward) same_file) p.beyond.backward q.beyond.backward in
       let own : own_verdict t.reader a.tails a.heads a.weights a.forward a.backward ≡ own_verdict u.reader b.tails b.heads b.weights b.forward b.backward = λ i.
-      cond (eqb (nodes i) 0 || ltb (same_nodes_read i) (nodes i)) Accepted
+      cond (eqb (nodes i) 0 || ltb (same_nodes_read i) (nodes i)) (Ok tt)
       (network_verdict (network (nodes i) (take (same_arcs_read i) (tails i)) (take (same_arcs_read i) (heads i)) (take (same_arcs_read i) (weights i))) (take (same_nodes_read i) (forward i)) (take (same_nodes_read i) (backward i))) in
       let verdict : t.reader.verdict ≡ u.reader.verdict = p.kept.judged ∙ (own ∙ sym q.kept.judged) in (
         λ i. record {

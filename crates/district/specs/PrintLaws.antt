@@ -1,7 +1,7 @@
 -- A step prints no more than the lines of one answer, and so does the end of input: a room of that many bytes always suffices.
 -- Assumes nothing.
+use Rattle.std.proofs.Common.{arith}
 use Rattle.std.specs.Prelude.{List, [], ℕ, ◌≤◌, length}
-use native.Mathlib.Omega.{arith}
 use Rattle.network.specs.declared.Cause.{Cause}
 use Rattle.frames.specs.AnswerLaws.{length_refused}
 use Rattle.district.specs.File.{File, FileStep, refused, taken, take_byte, end_of_input}

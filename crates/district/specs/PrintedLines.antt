@@ -1,18 +1,14 @@
 -- The lines that a file prints: digits between line feeds, those of its queries' answers and, behind them, the FF line of the
 -- refusal that ended it, if one did. An FF line that is printed for a query has the number of a query's refusal. Assumes nothing.
-use Rattle.std.specs.Prelude.{◌≡◌, refl, Bool, true, not, ◌&&◌, eqb, ltb, length, take, replicate, get_or}
+use Rattle.std.specs.Prelude.{◌≡◌, refl, Bool, true, not, ◌&&◌, eqb, ltb, length, take, replicate, get_or, Ok, Err, Some, Option, None, List, [], ◌∷◌, ◌++◌, ℕ, zero, suc, ◌+◌, ◌-◌, ◌/◌, ◌%◌, ◌≤◌, ◌<◌}
 use Rattle.std.proofs.Math.Path.{sym, ap}
-use Rattle.std.proofs.Common.{◌∙◌, arith, take-suc, ne_eqb}
-use mathlib.Core.List.{List, [], ◌∷◌, ◌++◌, append-nil, append_assoc}
-use Prim.Native.Nat.{ℕ, zero, suc, ◌+◌, ◌-◌, ◌/◌, ◌%◌, ◌≤◌, ◌<◌}
+use Rattle.std.proofs.Common.{◌∙◌, arith, take-suc, ne_eqb, append-nil, append_assoc}
 use Rattle.std.proofs.lemmas.Bool.{not-true}
-use Rattle.network.specs.declared.Cap.{Cap}
-use Rattle.network.specs.declared.Cap.TheVariants.{AtMost}
+use Rattle.network.specs.Cap.{Cap}
 use Rattle.network.specs.declared.Cause.{Cause}
 use Rattle.network.specs.declared.Answer.{Answer}
 use Rattle.network.specs.declared.Answer.TheVariants.{Route, NoRoute, Refused as Refusal, Provisional, Undecided}
-use Rattle.network.specs.declared.Verdict.{Verdict}
-use Rattle.network.specs.declared.Verdict.TheVariants.{Accepted, Refused}
+use Rattle.network.specs.Verdict.{Verdict}
 use Rattle.network.specs.Answer.{number_of, place_of, kind_of, values_of}
 use Rattle.network.specs.CaseSplit.{cases, both_true}
 use Rattle.network.specs.Query.{Query}
@@ -20,7 +16,7 @@ use Rattle.network.specs.Refusal.{query_verdict}
 use Rattle.nba.specs.Search.{state_at}
 use Rattle.nba.specs.Result.{path_of, refused_or, found_at, answer_to_at, turns_given}
 use Rattle.frames.specs.declared.Frame.{Frame}
-use Rattle.frames.specs.declared.Frame.TheVariants.{Size, Arc, TwoWay, Potentials, Query as QueryFrame, Unsound}
+use Rattle.frames.specs.declared.Frame.TheVariants.{Size, Arc, TwoWay, Potentials, Query as QueryFrame}
 use Rattle.frames.specs.Digits.{digit_of, number_from, number_at, digits_of, spelled}
 use Rattle.frames.specs.FieldLaws.{length_digits, field_roundtrip}
 use Rattle.frames.specs.Frame.{frame_of, pattern_of}
@@ -149,42 +145,42 @@ found_none q cap path =
     (λ t h. one_none (kind_none 133 _ (omega arith)) nothing_none)
 
 -- the answer of a query whose refusals are 4, 5, 7, 8 or 9
-answer_none : (q : Query) (cap : ℕ) (path : List ℕ) → ((c : Cause) → query_verdict q work_room ≡ Refused c → QueryNumber (number_of c)) → NoFiles (texts (answer_to_at q cap work_room) path)
+answer_none : (q : Query) (cap : ℕ) (path : List ℕ) → ((c : Cause) → query_verdict q work_room ≡ Err c → QueryNumber (number_of c)) → NoFiles (texts (answer_to_at q cap work_room) path)
 unfolding answer_to_at
 answer_none q cap path h = go (query_verdict q work_room) refl
   where
     go : (v : Verdict) → query_verdict q work_room ≡ v → NoFiles (texts (refused_or v (found_at q cap)) path)
-    go Accepted e = found_none q cap path
-    go (Refused c) e = refused_none c path (h c e)
+    go (Ok _) e = found_none q cap path
+    go (Err c) e = refused_none c path (h c e)
 
 -- ---- the lines of a file's queries
 -- of a query that is given so many turns
 abbrev texts_at : Query → ℕ → List (List ℕ)
 texts_at q cap = texts (answer_to_at q cap work_room) (path_of q (state_at q cap))
 
-texts_at_lem : (q : Query) (cap : ℕ) (y : List ℕ) → (lines_of (query_lines (AtMost cap) q ++ y)).whole ≡ texts_at q cap ++ (lines_of y).whole
+texts_at_lem : (q : Query) (cap : ℕ) (y : List ℕ) → (lines_of (query_lines (Some cap) q ++ y)).whole ≡ texts_at q cap ++ (lines_of y).whole
 unfolding query_lines
 texts_at_lem q cap y = answer_texts (answer_to_at q cap work_room) (path_of q (state_at q cap)) y
 
 query_texts : (c : Cap) (q : Query) (y : List ℕ) → (lines_of (query_lines c q ++ y)).whole ≡ texts_at q (turns_given c q) ++ (lines_of y).whole
 query_texts c q y = rw (capped_lines c q) (texts_at_lem q (turns_given c q) y)
 
-abbrev texts_for : Told → List ℕ → Frame → List (List ℕ)
-texts_for t line (QueryFrame s e c n) = texts_at (query_on t s e (pattern_of line)) (turns_given c (query_on t s e (pattern_of line)))
-texts_for t line (Size n m) = []
-texts_for t line (Arc a b w) = []
-texts_for t line (TwoWay a b w) = []
-texts_for t line (Potentials v h k) = []
-texts_for t line Unsound = []
+abbrev texts_for : Told → List ℕ → Option Frame → List (List ℕ)
+texts_for t line (Some (QueryFrame s e c n)) = texts_at (query_on t s e (pattern_of line)) (turns_given c (query_on t s e (pattern_of line)))
+texts_for t line (Some (Size n m)) = []
+texts_for t line (Some (Arc a b w)) = []
+texts_for t line (Some (TwoWay a b w)) = []
+texts_for t line (Some (Potentials v h k)) = []
+texts_for t line None = []
 
-frame_texts : (t : Told) (line : List ℕ) (g : Frame) (y : List ℕ) → (lines_of (printed_for t line g ++ y)).whole ≡ texts_for t line g ++ (lines_of y).whole
+frame_texts : (t : Told) (line : List ℕ) (g : Option Frame) (y : List ℕ) → (lines_of (printed_for t line g ++ y)).whole ≡ texts_for t line g ++ (lines_of y).whole
 unfolding printed_for
-frame_texts t line (QueryFrame s e c n) y = query_texts c (query_on t s e (pattern_of line)) y
-frame_texts t line (Size n m) y = refl
-frame_texts t line (Arc a b w) y = refl
-frame_texts t line (TwoWay a b w) y = refl
-frame_texts t line (Potentials v h k) y = refl
-frame_texts t line Unsound y = refl
+frame_texts t line (Some (QueryFrame s e c n)) y = query_texts c (query_on t s e (pattern_of line)) y
+frame_texts t line (Some (Size n m)) y = refl
+frame_texts t line (Some (Arc a b w)) y = refl
+frame_texts t line (Some (TwoWay a b w)) y = refl
+frame_texts t line (Some (Potentials v h k)) y = refl
+frame_texts t line None y = refl
 
 -- of lines one after the other
 unfoldable pub texts_by : Told → List (List ℕ) → List (List ℕ)
@@ -206,13 +202,13 @@ texts_last t (l ∷ lines) line = rw (texts_last (told_with t (frame_of l)) line
 
 module _ (single : Bool) (first : ℕ) (bytes : List ℕ) where
   -- a query that is taken prints no FF line of a file
-  frame_none : (i : ℕ) → i < line_count bytes → ((j : ℕ) → j ≤ i → TakenAfter single first bytes j) → (line : List ℕ) (g : Frame) → frame_after bytes i ≡ g → NoFiles (texts_for (told_after bytes i) line g)
-  frame_none i h taken line (QueryFrame s e d n) f = answer_none _ _ _ (λ c v. query_refused_with single first bytes i h taken f (pattern_of line) c v)
-  frame_none i h taken line (Size a b) f = nothing_none
-  frame_none i h taken line (Arc a b w) f = nothing_none
-  frame_none i h taken line (TwoWay a b w) f = nothing_none
-  frame_none i h taken line (Potentials v a b) f = nothing_none
-  frame_none i h taken line Unsound f = nothing_none
+  frame_none : (i : ℕ) → i < line_count bytes → ((j : ℕ) → j ≤ i → TakenAfter single first bytes j) → (line : List ℕ) (g : Option Frame) → frame_after bytes i ≡ g → NoFiles (texts_for (told_after bytes i) line g)
+  frame_none i h taken line (Some (QueryFrame s e d n)) f = answer_none _ _ _ (λ c v. query_refused_with single first bytes i h taken f (pattern_of line) c v)
+  frame_none i h taken line (Some (Size a b)) f = nothing_none
+  frame_none i h taken line (Some (Arc a b w)) f = nothing_none
+  frame_none i h taken line (Some (TwoWay a b w)) f = nothing_none
+  frame_none i h taken line (Some (Potentials v a b)) f = nothing_none
+  frame_none i h taken line None f = nothing_none
 
   pub lines_none : (i : ℕ) → i ≤ line_count bytes → ((j : ℕ) → j < i → TakenAfter single first bytes j) → NoFiles (texts_by nothing_told (take i (lines_of bytes).whole))
   unfolding texts_by
@@ -223,7 +219,7 @@ module _ (single : Bool) (first : ℕ) (bytes : List ℕ) where
       (frame_none i h (λ j l. taken j (omega arith)) (get_or (lines_of bytes).whole i []) (frame_after bytes i) refl))
 
   -- the lines of a file that is taken whole are those of its queries
-  pub accepted_texts : (outcome_of single first bytes).verdict ≡ Accepted → (lines_of (answer_from single first bytes)).whole ≡ texts_by nothing_told (take (line_count bytes) (lines_of bytes).whole)
+  pub accepted_texts : (outcome_of single first bytes).verdict ≡ Ok tt → (lines_of (answer_from single first bytes)).whole ≡ texts_by nothing_told (take (line_count bytes) (lines_of bytes).whole)
   unfolding lines_of
   accepted_texts e =
       let none = (file_accepted_exactly_when single first bytes).0 e in

@@ -1,13 +1,12 @@
 -- The numbers of the FF lines that a file prints, as a program and for the display: 1, 2, 10 or 11 for the file itself, and 4, 5,
 -- 7, 8 or 9 for a query in it. So 19 and 20, which are refusals of an index (docs/RULES.md, "The index"), never come from a file.
 -- Assumes nothing.
-use Rattle.std.specs.Prelude.{◌≡◌, refl, ◌≢◌, Bool, List, [], ◌∷◌, ◌++◌, ℕ, zero, suc, ◌-◌, ◌≤◌, ◌<◌, get_or}
+use Rattle.std.specs.Prelude.{◌≡◌, refl, ◌≢◌, Bool, List, [], ◌∷◌, ◌++◌, ℕ, zero, suc, ◌-◌, ◌≤◌, ◌<◌, get_or, Ok, Err}
 use Rattle.std.proofs.Common.{arith}
 use Rattle.network.specs.declared.Cause.{Cause}
 use Rattle.network.specs.declared.Cause.TheVariants.{NodeCount, ArcLists, PotentialLists, StartOrEnd, Pattern, Room, BadArc, BadPotential, Inconsistent, UnsoundLine, MisplacedLine, NoSuchArc, WrongIndex}
 use Rattle.network.specs.declared.Answer.TheVariants.{Refused as Refusal}
-use Rattle.network.specs.declared.Verdict.{Verdict}
-use Rattle.network.specs.declared.Verdict.TheVariants.{Accepted, Refused}
+use Rattle.network.specs.Verdict.{Verdict}
 use Rattle.network.specs.Answer.{number_of, place_of}
 use Rattle.district.specs.File.{answer_from}
 use Rattle.district.specs.Lines.{outcome_of}
@@ -64,11 +63,11 @@ module _ (single : Bool) (first : ℕ) (bytes : List ℕ) where
   given_ending WrongIndex g = absurd g
 
   lines_numbered : (v : Verdict) → (outcome_of single first bytes).verdict ≡ v → (i : ℕ) → Numbered (printed_line (answer_from single first bytes) i)
-  lines_numbered Accepted e i =
+  lines_numbered (Ok _) e i =
       let whole : TakenWhole single first bytes = (file_taken_whole single first bytes).0 e in
       rw (accepted_texts single first bytes e)
       (record { law = λ k. of_query (((lines_none single first bytes (line_count bytes) (omega arith) (λ j h. whole.taken j h)).each i).law k) })
-  lines_numbered (Refused c) e i =
+  lines_numbered (Err c) e i =
       let g : GivenByCause single first bytes c = (file_refused_exactly_when single first bytes c).0 e in
       let end : Ending c = given_ending c g in
       rw (refused_texts single first bytes c g)

@@ -1,17 +1,13 @@
 -- What the code prints for a query is what the definition says: the path that the search leaves at the front of its list is the
 -- path of the answer, and a list of 255 entries takes a line's pattern whole. Assumes nothing.
-use Rattle.std.specs.Prelude.{◌≡◌, true, false, ◌&&◌, ℤ, length, take, drop}
+use Rattle.std.specs.Prelude.{◌≡◌, true, false, ◌&&◌, ℤ, length, take, drop, Ok, Err, None, Some, unwrap_or, List, [], ◌∷◌, ◌++◌, ℕ, ◌≤◌, ◌<◌}
 use Rattle.std.proofs.Math.Path.{refl, sym, ap}
 use Rattle.std.proofs.Common.{subst, ◌∙◌, le_refl, arith, take_at, take_all, length-take-le, eq-eqb, ne_eqb, le-ltb}
-use mathlib.Core.List.{List, [], ◌∷◌, ◌++◌}
-use Prim.Native.Nat.{ℕ, ◌≤◌, ◌<◌}
 use Rattle.network.specs.declared.Answer.{Answer}
 use Rattle.network.specs.declared.Answer.TheVariants.{Route, Refused, Provisional}
-use Rattle.network.specs.declared.Cap.{Cap}
-use Rattle.network.specs.declared.Cap.TheVariants.{AtMost}
+use Rattle.network.specs.Cap.{Cap}
 use Rattle.network.specs.declared.Cause.{Cause}
-use Rattle.network.specs.declared.Verdict.{Verdict}
-use Rattle.network.specs.declared.Verdict.TheVariants.{Accepted, Refused as Refusal}
+use Rattle.network.specs.Verdict.{Verdict}
 use Rattle.network.specs.Network.{Network, most_nodes, most_arcs}
 use Rattle.network.specs.Query.{Query, query}
 use Rattle.network.specs.Refusal.{first_refusal, bad_node_count, bad_arc_lists, bad_potential_lists, list_rows, list_verdict, trip_verdict, map_verdict, query_verdict}
@@ -64,7 +60,7 @@ module _ (q : Query) (cap : ℕ) where
   searched_lines l = found_lines l.path
 
   -- what the search of an accepted query leaves is printed as the definition says
-  pub left_lines : (ix : Index) (l : LentLists) (a : Answer) (after : LentLists) → indexed_verdict q ix work_room ≡ Accepted → left a after ≡ search_leaves_at q cap l → answer_lines a after.path ≡ query_lines (AtMost cap) q
+  pub left_lines : (ix : Index) (l : LentLists) (a : Answer) (after : LentLists) → indexed_verdict q ix work_room ≡ Ok tt → left a after ≡ search_leaves_at q cap l → answer_lines a after.path ≡ query_lines (Some cap) q
   unfolding query_lines answer_to_at
   left_lines ix l a after e h =
       let x : a ≡ found_at q cap = ap (λ (y : Left). y.answer) h in
@@ -72,14 +68,17 @@ module _ (q : Query) (cap : ℕ) where
       rw (accepted_plain q ix work_room e, x, p) (searched_lines l)
 
   -- a refused query prints its refusal
-  pub refused_lines : (c : Cause) → query_verdict q work_room ≡ Refusal c → answer_lines (Refused c) [] ≡ query_lines (AtMost cap) q
+  pub refused_lines : (c : Cause) → query_verdict q work_room ≡ Err c → answer_lines (Refused c) [] ≡ query_lines (Some cap) q
   unfolding query_lines answer_to_at
   refused_lines c e = rw e
 
--- a query prints what it prints with the turns that it gives
-pub given_lines : (c : Cap) (nodes turns : ℕ) → ((q : Query) → q.network.nodes ≡ nodes → turns ≡ turns_given c q)
-    → (q : Query) → q.network.nodes ≡ nodes → query_lines (AtMost turns) q ≡ query_lines c q
-given_lines c nodes turns given q e = ap (λ (n : ℕ). query_lines (AtMost n) q) (given q e) ∙ sym (capped_lines c q)
+-- a query prints what it prints with the turns that it gives: as many as its cap says, and without one as many as there are nodes
+given_turns : (c : Cap) (q : Query) → unwrap_or c q.network.nodes ≡ turns_given c q
+given_turns None q = refl
+given_turns (Some n) q = refl
+
+pub given_lines : (c : Cap) (q : Query) → query_lines (Some (unwrap_or c q.network.nodes)) q ≡ query_lines c q
+given_lines c q = ap (λ (n : ℕ). query_lines (Some n) q) (given_turns c q) ∙ sym (capped_lines c q)
 
 -- ---- the verdict on a query, from the trip's and the network's own
 pub verdict_parts : {own : Verdict} {g : Network} {ix : Index} {h k : List ℤ} → Known own g ix h k → (s e : ℕ) (p : List ℕ)
@@ -90,14 +89,14 @@ verdict_parts {own} {g} {ix} {h} {k} known s e p =
 
 -- an accepted one is accepted over the index too: its network is accepted, so the index was built
 pub query_by_parts : {own : Verdict} {g : Network} {ix : Index} {h k : List ℤ} → Known own g ix h k → (s e : ℕ) (p : List ℕ)
-    → first_refusal (trip_verdict g.nodes s e p work_room ∷ own ∷ []) ≡ Accepted → indexed_verdict (query g h k s e p) ix work_room ≡ Accepted
+    → first_refusal (trip_verdict g.nodes s e p work_room ∷ own ∷ []) ≡ Ok tt → indexed_verdict (query g h k s e p) ix work_room ≡ Ok tt
 query_by_parts {own} {g} {ix} {h} {k} known s e p accepted =
     let right : wrong_index g ix ≡ false = known.index_right (rows_accepted (trip_verdict g.nodes s e p work_room ∷ own ∷ []) accepted 1) in
     indexed_same (query g h k s e p) ix work_room known.index_long right ∙ (sym (verdict_parts known s e p) ∙ accepted)
 
 -- lists as long as they are to be are sound
 lists_accepted : (g : Network) (h k : List ℤ) → 0 < g.nodes → g.nodes ≤ most_nodes → length g.heads ≡ length g.tails → length g.weights ≡ length g.tails
-    → length g.tails ≤ most_arcs → length h ≡ g.nodes → length k ≡ g.nodes → list_verdict g h k ≡ Accepted
+    → length g.tails ≤ most_arcs → length h ≡ g.nodes → length k ≡ g.nodes → list_verdict g h k ≡ Ok tt
 unfolding list_verdict list_rows first_refusal bad_node_count bad_arc_lists bad_potential_lists
 lists_accepted g h k some few heads weights fewer forward backward =
     rw (ne_eqb g.nodes 0 (λ e. omega arith), le-ltb _ _ few, eq-eqb _ _ heads, eq-eqb _ _ weights, le-ltb _ _ fewer, eq-eqb _ _ forward, eq-eqb _ _ backward)
@@ -134,12 +133,12 @@ placed_as {text} {text'} {room} {after} {n} e h = subst (λ (t : List ℕ). Plac
 
 -- a query that may be asked, and one too many
 module _ (r : Reader) (l : DistrictLists) (s e : ℕ) (c : Cap) (n : ℕ) where
-  pub one_too_many : (r.single && r.asked) ≡ true → wrong (file_of r l) (QueryFrame s e c n) ≡ take_query (file_of r l) (QueryFrame s e c n)
+  pub one_too_many : (r.single && r.asked) ≡ true → wrong (file_of r l) (Some (QueryFrame s e c n)) ≡ take_query (file_of r l) (Some (QueryFrame s e c n))
   unfolding take_query file_of told_by
   one_too_many h = rw h
 
   pub may_be_asked : (r.single && r.asked) ≡ false
       → taken (file_of r l) (with_query (told_by r l)) (query_lines c (query_on (told_by r l) s e (pattern_of (take r.held l.line))))
-      ≡ take_query (file_of r l) (QueryFrame s e c n)
+      ≡ take_query (file_of r l) (Some (QueryFrame s e c n))
   unfolding take_query file_of told_by
   may_be_asked h = rw h

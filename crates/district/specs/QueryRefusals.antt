@@ -1,16 +1,15 @@
 -- The FF of a query in a file is 4, 5, 7, 8 or 9 (docs/RULES.md, "The program"), so its number tells it from the FF of a file
 -- refusal, which is 1, 2, 10 or 11. The argument: what lines that are taken tell has the counts that the 01 stated and lists that
 -- are as long as they should be, and a query is lent room for the most nodes. Assumes nothing.
-use Rattle.std.specs.Prelude.{◌≡◌, refl, ◌≢◌, Bool, true, false, not, ◌&&◌, List, [], ◌∷◌, ◌++◌, map, ℕ, zero, suc, ◌+◌, ◌≤◌, ◌<◌, ltb, leb}
+use Rattle.std.proofs.lemmas.Bool.{eq-eqb, ne_eqb, le-ltb, eqb-true, eqb-false, leb-true, ltb-true, ltb-false, not-true}
+use Rattle.std.specs.Prelude.{◌≡◌, refl, ◌≢◌, Bool, true, false, not, ◌&&◌, List, [], ◌∷◌, ◌++◌, map, ℕ, zero, suc, ◌+◌, ◌≤◌, ◌<◌, ltb, leb, Ok, Err, Option, None, Some}
 use Rattle.std.proofs.Common.{sym, ap, subst, ◌∙◌, arith}
 use Rattle.std.proofs.Math.Dec.{eqb}
 use Rattle.std.proofs.Math.ListN.{length, length-append}
 use Rattle.std.proofs.lemmas.List.{length-map}
-use borrow.Author.Tests.{eq-eqb, ne_eqb, le-ltb, eqb-true, eqb-false, leb-true, ltb-true, ltb-false, not-true}
-use Rattle.network.specs.declared.Cap.{Cap}
+use Rattle.network.specs.Cap.{Cap}
 use Rattle.network.specs.declared.Cause.{Cause}
 use Rattle.network.specs.declared.Cause.TheVariants.{NodeCount, ArcLists, PotentialLists, StartOrEnd, Pattern, Room, BadArc, BadPotential, Inconsistent}
-use Rattle.network.specs.declared.Verdict.TheVariants.{Accepted, Refused}
 use Rattle.network.specs.Answer.{number_of}
 use Rattle.network.specs.CaseSplit.{by_bool, both_true, true≢false}
 use Rattle.network.specs.Network.{Network, arc_count, most_nodes, most_arcs}
@@ -18,7 +17,7 @@ use Rattle.network.specs.Refusal.{first_refusal, bad_node_count, bad_arc_lists, 
 use Rattle.network.specs.RefusalLaws.{refused≢accepted}
 use Rattle.network.specs.GivenLaws.{Rows, none, row, said_if, said_at, refused_says}
 use Rattle.frames.specs.declared.Frame.{Frame}
-use Rattle.frames.specs.declared.Frame.TheVariants.{Size, Arc, TwoWay, Potentials, Query as QueryFrame, Unsound}
+use Rattle.frames.specs.declared.Frame.TheVariants.{Size, Arc, TwoWay, Potentials, Query as QueryFrame}
 use Rattle.district.specs.File.{Told, GivenArc, added_arcs, with_arcs, size_owed, arcs_owed, potentials_owed, work_room, query_on}
 use Rattle.district.specs.Reader.{network_told}
 use Rattle.district.specs.Lines.{owed_arcs, size_read, arcs_read_by, potentials_read, may_stand, size_verdict, told_with}
@@ -38,7 +37,7 @@ record Fits (t : Told) : Type 0 where
   pub nodes_within : length t.forward ≤ t.nodes
 
 -- the counts of a 01 that is taken
-good_counts : (a b : ℕ) → size_verdict (Size a b) ≡ Accepted → (0 < a) × (a ≤ most_nodes) × (b ≤ most_arcs)
+good_counts : (a b : ℕ) → size_verdict (Some (Size a b)) ≡ Ok tt → (0 < a) × (a ≤ most_nodes) × (b ≤ most_arcs)
 unfolding first_refusal
 good_counts a b s =
     by_bool (eqb a 0) (λ p. absurd (refused≢accepted {c = NodeCount} (rw p at s)))
@@ -62,9 +61,9 @@ module _ (single : Bool) (t : Told) (f : Fits t) where
         nodes_within = f.nodes_within;
       }
 
-  fits_next : (g : Frame) → may_stand single t g ≡ true → size_verdict g ≡ Accepted → Fits (told_with t g)
+  fits_next : (g : Option Frame) → may_stand single t g ≡ true → size_verdict g ≡ Ok tt → Fits (told_with t g)
   unfolding may_stand told_with
-  fits_next (Size a b) m s =
+  fits_next (Some (Size a b)) m s =
       let c : (0 < a) × (a ≤ most_nodes) × (b ≤ most_arcs) = good_counts a b s in
       let none : t.nodes ≡ 0 = eqb-true t.nodes 0 m in
       let no_arcs : t.arcs ≡ 0 = f.size_first none in
@@ -78,9 +77,9 @@ module _ (single : Bool) (t : Told) (f : Fits t) where
         backward_long = f.backward_long;
         nodes_within = omega arith;
       }
-  fits_next (Arc a b w) m s = both_true (size_read t) (leb 1 (owed_arcs t)) m (λ r o. fits_arcs (added_arcs (Arc a b w)) (leb-true 1 (owed_arcs t) o))
-  fits_next (TwoWay a b w) m s = both_true (size_read t) (leb 2 (owed_arcs t)) m (λ r o. fits_arcs (added_arcs (TwoWay a b w)) (leb-true 2 (owed_arcs t) o))
-  fits_next (Potentials v h k) m s =
+  fits_next (Some (Arc a b w)) m s = both_true (size_read t) (leb 1 (owed_arcs t)) m (λ r o. fits_arcs (added_arcs (Some (Arc a b w))) (leb-true 1 (owed_arcs t) o))
+  fits_next (Some (TwoWay a b w)) m s = both_true (size_read t) (leb 2 (owed_arcs t)) m (λ r o. fits_arcs (added_arcs (Some (TwoWay a b w))) (leb-true 2 (owed_arcs t) o))
+  fits_next (Some (Potentials v h k)) m s =
       both_true (arcs_read_by t) (potentials_owed t && eqb v (length t.forward)) m
       (λ r p. both_true (potentials_owed t) (eqb v (length t.forward)) p
       (λ o q. let owed : length t.forward < t.nodes = ltb-true (length t.forward) t.nodes o in
@@ -94,7 +93,7 @@ module _ (single : Bool) (t : Told) (f : Fits t) where
         backward_long = omega (arith, length-append t.backward (k ∷ []), length-append t.forward (h ∷ []), f.backward_long);
         nodes_within = omega (arith, length-append t.forward (h ∷ []));
       }))
-  fits_next (QueryFrame a b c n) m s =
+  fits_next (Some (QueryFrame a b c n)) m s =
       record {
         few_nodes = f.few_nodes;
         few_arcs = f.few_arcs;
@@ -105,7 +104,7 @@ module _ (single : Bool) (t : Told) (f : Fits t) where
         backward_long = f.backward_long;
         nodes_within = f.nodes_within;
       }
-  fits_next Unsound m s = absurd (true≢false m refl)
+  fits_next None m s = absurd (true≢false m refl)
 
 -- after lines that are taken
 fits_after : (single : Bool) (first : ℕ) (bytes : List ℕ) (i : ℕ) → i ≤ line_count bytes → ((j : ℕ) → j < i → TakenAfter single first bytes j) → Fits (told_after bytes i)
@@ -180,16 +179,16 @@ module _ (t : Told) (f : Fits t) (all : potentials_read t ≡ true) (s e : ℕ) 
       (row (said_at Numbered BadPotential (bad_potential t.forward t.backward) t.nodes (λ v h. numbered (omega arith) (omega arith) (λ z. omega arith)))
       (row (said_at Numbered Inconsistent (breaks_rule g t.forward t.backward) (arc_count g) (λ a h. numbered (omega arith) (omega arith) (λ z. omega arith))) none))))))))
 
-  query_numbered : (c : Cause) → query_verdict (query_on t s e p) work_room ≡ Refused c → QueryNumber (number_of c)
+  query_numbered : (c : Cause) → query_verdict (query_on t s e p) work_room ≡ Err c → QueryNumber (number_of c)
   unfolding query_verdict
   query_numbered c v = (refused_says Numbered rows_numbered c v).holds.its
 
 -- a query that is taken, and refused: its number is 4, 5, 7, 8 or 9
 pub query_refused_with : (single : Bool) (first : ℕ) (bytes : List ℕ) (i : ℕ) → i < line_count bytes → ((j : ℕ) → j ≤ i → TakenAfter single first bytes j)
-    → {s e n : ℕ} {cap : Cap} → frame_after bytes i ≡ QueryFrame s e cap n → (p : List ℕ) (c : Cause)
-    → query_verdict (query_on (told_after bytes i) s e p) work_room ≡ Refused c → QueryNumber (number_of c)
+    → {s e n : ℕ} {cap : Cap} → frame_after bytes i ≡ Some (QueryFrame s e cap n) → (p : List ℕ) (c : Cause)
+    → query_verdict (query_on (told_after bytes i) s e p) work_room ≡ Err c → QueryNumber (number_of c)
 unfolding may_stand
 query_refused_with single first bytes i h taken {s} {e} {n} {cap} frame p c v =
-    let stands : may_stand single (told_after bytes i) (QueryFrame s e cap n) ≡ true = subst (λ (g : Frame). may_stand single (told_after bytes i) g ≡ true) frame (taken i (omega arith)).may_stand_lem in
+    let stands : may_stand single (told_after bytes i) (Some (QueryFrame s e cap n)) ≡ true = subst (λ (g : Option Frame). may_stand single (told_after bytes i) g ≡ true) frame (taken i (omega arith)).may_stand_lem in
     both_true (potentials_read (told_after bytes i)) (not (single && (told_after bytes i).asked)) stands
     (λ all _. query_numbered (told_after bytes i) (fits_after single first bytes i (omega arith) (λ j l. taken j (omega arith))) all s e p c v)

@@ -1,8 +1,7 @@
 -- What the code's reader and the lists that it is lent stand for, and what a step of the code promises: what the definition
 -- says of the file, and the printed bytes placed in the room. Definitions only; their laws are in ReaderLaws. Assumes nothing.
-use Rattle.std.specs.Prelude.{◌≡◌, Bool, true, false, cond, ◌||◌, List, [], ◌∷◌, ℕ, zero, suc, ◌+◌, ◌-◌, ◌*◌, ◌≤◌, ◌<◌, eqb, ltb, ℤ, length, take, drop}
-use Rattle.network.specs.declared.Verdict.{Verdict}
-use Rattle.network.specs.declared.Verdict.TheVariants.{Accepted, Refused}
+use Rattle.std.specs.Prelude.{◌≡◌, Bool, true, false, cond, ◌||◌, List, [], ◌∷◌, ℕ, zero, suc, ◌+◌, ◌-◌, ◌*◌, ◌≤◌, ◌<◌, eqb, ltb, ℤ, length, take, drop, Ok, Err}
+use Rattle.network.specs.Verdict.{Verdict}
 use Rattle.network.specs.Network.{Network, network, most_nodes, most_arcs}
 use Rattle.network.specs.Refusal.{network_verdict}
 use Rattle.index.specs.Index.{Index, built_on}
@@ -66,7 +65,7 @@ network_read r tails heads weights =
 -- speaks against it
 unfoldable pub own_verdict : Reader → List ℕ → List ℕ → List ℕ → List ℤ → List ℤ → Verdict
 own_verdict r tails heads weights forward backward =
-    cond (eqb r.nodes 0 || ltb r.nodes_read r.nodes) Accepted
+    cond (eqb r.nodes 0 || ltb r.nodes_read r.nodes) (Ok tt)
     (network_verdict (network_read r tails heads weights) (take r.nodes_read forward) (take r.nodes_read backward))
 
 -- the network that is told
@@ -76,8 +75,8 @@ network_told t = network t.nodes t.tails t.heads t.weights
 -- the index of a network whose own verdict is known, in lent lists: an accepted network's is built there, from their first
 -- entries on; any other's is not, and they stay as they are
 abbrev pub built_under : Verdict → Network → Index → Index
-built_under Accepted g ix = built_on g ix
-built_under (Refused c) g ix = ix
+built_under (Ok _) g ix = built_on g ix
+built_under (Err c) g ix = ix
 
 -- what lent index lists hold: once all potentials are read, the index of a network that is accepted; until then they are as lent
 unfoldable pub index_kept : Told → Index → Index
@@ -127,7 +126,7 @@ start_reader single line =
       arcs = 0;
       arcs_read = 0;
       nodes_read = 0;
-      verdict = Accepted;
+      verdict = Ok tt;
       asked = false;
     }
 

@@ -1,13 +1,12 @@
 -- Laws of readers and steps: how a reader begins, what a step that changes no list has to show, and what a reader's counts say
 -- of the file that it stands for. Assumes nothing.
-use Rattle.std.specs.Prelude.{◌≡◌, refl, Bool, true, false, ◌&&◌, List, [], ℕ, zero, suc, ◌≤◌, ◌<◌, eqb, ltb, ℤ, length, take}
+use Rattle.std.proofs.lemmas.Bool.{eqb-true, ltb-true, eq-eqb, ne_eqb, lt-ltb, le-ltb}
+use Rattle.std.specs.Prelude.{◌≡◌, refl, Bool, true, false, ◌&&◌, List, [], ℕ, zero, suc, ◌≤◌, ◌<◌, eqb, ltb, ℤ, length, take, Ok, Option, None}
 use Rattle.std.proofs.Math.Path.{sym}
 use Rattle.std.proofs.Common.{subst, ◌∙◌, arith}
 use Rattle.std.proofs.Math.Seq.{length-take-le}
-use borrow.Author.Tests.{eqb-true, ltb-true, eq-eqb, ne_eqb, lt-ltb, le-ltb}
 use Rattle.network.specs.declared.Cause.TheVariants.{MisplacedLine}
-use Rattle.network.specs.declared.Verdict.TheVariants.{Accepted}
-use Rattle.network.specs.CaseSplit.{by_lt, both_true, true≢false}
+use Rattle.network.specs.CaseSplit.{cases, by_lt, both_true, true≢false}
 use Rattle.network.specs.Refusal.{network_verdict}
 use Rattle.index.specs.Index.{Index}
 use Rattle.frames.specs.declared.Frame.{Frame}
@@ -16,9 +15,11 @@ use Rattle.frames.specs.AnswerLines.{line_feed}
 use Rattle.frames.specs.RoomLaws.{nothing_placed}
 use Rattle.district.specs.declared.Reader.{Reader}
 use Rattle.district.specs.declared.Taken.{Taken}
-use Rattle.district.specs.File.{File, FileStep, step, beginning, last_line, refused, take_size, take_arcs, take_potentials, take_query, take_frame, take_line, broken_line, holding, take_byte, owing, end_of_input}
+use Rattle.district.specs.declared.FileLists.{FileLists}
+use Rattle.district.specs.File.{File, FileStep, step, beginning, last_line, refused, wrong, size_owed, arcs_owed, potentials_owed, take_size, take_arcs, take_potentials, take_query, take_frame, take_line, broken_line, holding, take_byte, owing, end_of_input}
 use Rattle.district.specs.Reader.{Lists, lists, told_by, file_of, Counted, RoomyIndex, Roomy, Kept, Beyond, Stepped, start_reader, network_read, own_verdict, index_kept}
-use Rattle.district.specs.Inner.{SteppedOver, SteppedLine, SteppedArcs, SteppedPotentials, NotLast, PotentialsOpen, AllRead, ends_line, owes_by}
+use Rattle.district.specs.Lists.{lists_beside}
+use Rattle.district.specs.Inner.{SteppedOver, SteppedLine, SteppedArcs, NotLast, AllRead, ends_line, owes_by, SteppedPotentials, PotentialsOpen}
 
 -- ---- the beginning
 pub start_file : (single : Bool) (line : ℕ) (l : Lists) → file_of (start_reader single line) l ≡ beginning single line
@@ -49,11 +50,11 @@ positive (suc n) h = omega arith
 
 module _ (r : Reader) (tails heads weights : List ℕ) (forward backward : List ℤ) where
   -- nothing speaks against it while the 01 or a potential is owed
-  pub without_size : r.nodes ≡ 0 → own_verdict r tails heads weights forward backward ≡ Accepted
+  pub without_size : r.nodes ≡ 0 → own_verdict r tails heads weights forward backward ≡ Ok tt
   unfolding own_verdict
   without_size none = rw (eq-eqb _ _ none)
 
-  pub without_potentials : r.nodes_read < r.nodes → own_verdict r tails heads weights forward backward ≡ Accepted
+  pub without_potentials : r.nodes_read < r.nodes → own_verdict r tails heads weights forward backward ≡ Ok tt
   unfolding own_verdict
   without_potentials owed = rw (ne_eqb r.nodes 0 (λ e. omega arith), lt-ltb _ _ owed)
 
@@ -79,9 +80,9 @@ pub over_line : {s : File → FileStep} {r : Reader} {t : Taken} {room room' : L
     → SteppedLine s r t line line room room'
 over_line line h = record { law = λ tails heads weights ix f b k. h.law (lists line tails heads weights ix f b) k }
 
-pub over_arcs : {s : File → FileStep} {r : Reader} {t : Taken} {room room' : List ℕ} (tails heads weights : List ℕ) → SteppedOver s r t room room'
-    → SteppedArcs s r t tails heads weights tails heads weights room room'
-over_arcs tails heads weights h = record { law = λ line ix f b k. h.law (lists line tails heads weights ix f b) k }
+pub over_arcs : {s : File → FileStep} {r : Reader} {t : Taken} {room room' : List ℕ} (l : FileLists) → SteppedOver s r t room room'
+    → SteppedArcs s r t l l room room'
+over_arcs l h = record { law = λ ix k. h.law (lists_beside l ix) k }
 
 pub over_potentials : {s : File → FileStep} {r : Reader} {t : Taken} {room room' : List ℕ} (tails heads weights : List ℕ) (ix : Index) (f b : List ℤ) → SteppedOver s r t room room'
     → SteppedPotentials s r t tails heads weights ix ix f b f b room room'
@@ -127,7 +128,14 @@ potentials_open r l k not_last all owed =
       for_backward = y.for_backward;
     }
 
-module _ (r : Reader) (l : Lists) (k : Kept r l) (g : Frame) where
+-- a line that spells no sound frame is refused, whatever is owed
+pub unsound_frame : (f : File) → wrong f None ≡ take_frame f None
+unfolding take_frame take_size take_arcs take_potentials take_query
+unsound_frame f =
+    cases (λ x. wrong f None ≡ x) (size_owed f.told) (λ _. refl)
+    (λ _. cases (λ x. wrong f None ≡ x) (arcs_owed f.told) (λ _. refl) (λ _. cases (λ x. wrong f None ≡ x) (potentials_owed f.told) (λ _. refl) (λ _. refl)))
+
+module _ (r : Reader) (l : Lists) (k : Kept r l) (g : Option Frame) where
   pub where_size_owed : r.nodes ≡ 0 → take_size (file_of r l) g ≡ take_frame (file_of r l) g
   unfolding take_frame file_of told_by
   where_size_owed none = rw (eq-eqb _ _ none)
@@ -163,7 +171,7 @@ module _ (r : Reader) (l : Lists) where
   unfolding take_byte file_of
   ended_byte b e = rw e
 
-  pub line_byte : (b : ℕ) {g : Frame} → ends_line r b ≡ true → g ≡ frame_of (take r.held l.line) → take_frame (file_of r l) g ≡ take_byte (file_of r l) b
+  pub line_byte : (b : ℕ) {g : Option Frame} → ends_line r b ≡ true → g ≡ frame_of (take r.held l.line) → take_frame (file_of r l) g ≡ take_byte (file_of r l) b
   unfolding take_byte take_line file_of
   line_byte b ends e =
       let m = line_ends r b ends in

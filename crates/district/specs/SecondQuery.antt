@@ -1,20 +1,20 @@
 -- The second query line of a file (docs/RULES.md, "The display": it hands over a file with exactly one query, and a second
 -- query line is 11): which line that is, and the bytes of the file before it. Definitions only; SecondQueryLaws says what the
 -- display is answered. Assumes nothing.
-use Rattle.std.specs.Prelude.{◌≡◌, Bool, true, false, cond, List, [], ◌∷◌, ℕ, zero, suc, ◌<◌, eqb}
+use Rattle.std.specs.Prelude.{◌≡◌, Bool, true, false, cond, List, [], ◌∷◌, ℕ, zero, suc, ◌<◌, eqb, Option, None, Some}
 use Rattle.frames.specs.declared.Frame.{Frame}
-use Rattle.frames.specs.declared.Frame.TheVariants.{Size, Arc, TwoWay, Potentials, Query as QueryFrame, Unsound}
+use Rattle.frames.specs.declared.Frame.TheVariants.{Size, Arc, TwoWay, Potentials, Query as QueryFrame}
 use Rattle.frames.specs.AnswerLines.{line_feed}
 use Rattle.district.specs.FileGiven.{line_count, frame_after, told_after, TakenAfter, ComesTo}
 
 -- the frame is a sound query, 04 or 07
-abbrev pub is_query : Frame → Bool
-is_query (QueryFrame s e c n) = true
-is_query (Size n m) = false
-is_query (Arc a b w) = false
-is_query (TwoWay a b w) = false
-is_query (Potentials v h k) = false
-is_query Unsound = false
+abbrev pub is_query : Option Frame → Bool
+is_query (Some (QueryFrame s e c n)) = true
+is_query (Some (Size n m)) = false
+is_query (Some (Arc a b w)) = false
+is_query (Some (TwoWay a b w)) = false
+is_query (Some (Potentials v h k)) = false
+is_query None = false
 
 -- the line after i line feeds asks again: it is a sound query, and one of the lines before it was taken as a query
 pub record AsksAgain (bytes : List ℕ) (i : ℕ) : Type 0 where

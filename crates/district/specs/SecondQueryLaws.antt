@@ -1,25 +1,21 @@
 -- What the display is answered. Where no second query line stands, or a file refusal comes before it, the display is answered
 -- what `routeline` prints. Where one stands, it is answered what `routeline` prints for the file up to that line, and then 11
 -- there. The argument: a line is judged alike by both, unless it is a sound query after one that was taken. Assumes nothing.
-use Rattle.std.specs.Prelude.{◌≡◌, Bool, not, ◌&&◌, leb, length, take, get_or}
+use Rattle.std.proofs.lemmas.Bool.{ltb-false, leb-true}
+use Rattle.std.specs.Prelude.{◌≡◌, Bool, not, ◌&&◌, leb, length, take, get_or, Ok, Err, Option, None, Some, List, [], ◌∷◌, ◌++◌, ℕ, zero, suc, ◌+◌, ◌≤◌, ◌<◌}
 use Rattle.std.proofs.Math.Path.{refl, ap}
-use Rattle.std.proofs.Common.{sym, ◌∙◌}
+use Rattle.std.proofs.Common.{sym, ◌∙◌, append_assoc, arith}
 use Rattle.std.proofs.Math.Bool.{true, false, and-false}
-use mathlib.Core.List.{List, [], ◌∷◌, ◌++◌, append_assoc}
-use Prim.Native.Nat.{ℕ, zero, suc, ◌+◌, ◌≤◌, ◌<◌}
-use native.Mathlib.Omega.{arith}
 use Rattle.std.proofs.Math.Dec.{eqb}
-use borrow.Author.Tests.{ltb-false, leb-true}
 use Rattle.network.specs.declared.Cause.{Cause}
 use Rattle.network.specs.declared.Cause.TheVariants.{MisplacedLine}
-use Rattle.network.specs.declared.Verdict.{Verdict}
-use Rattle.network.specs.declared.Verdict.TheVariants.{Accepted, Refused}
+use Rattle.network.specs.Verdict.{Verdict}
 use Rattle.network.specs.declared.Answer.TheVariants.{Refused as Refusal}
 use Rattle.network.specs.CaseSplit.{by_bool, by_lt, both_true, true≢false}
 use Rattle.network.specs.Refusal.{given, first_refusal}
 use Rattle.network.specs.RefusalLaws.{refused≢accepted}
 use Rattle.frames.specs.declared.Frame.{Frame}
-use Rattle.frames.specs.declared.Frame.TheVariants.{Size, Arc, TwoWay, Potentials, Query as QueryFrame, Unsound}
+use Rattle.frames.specs.declared.Frame.TheVariants.{Size, Arc, TwoWay, Potentials, Query as QueryFrame}
 use Rattle.frames.specs.Frame.{frame_of}
 use Rattle.frames.specs.AnswerLines.{line_feed, answer_lines}
 use Rattle.district.specs.File.{Told, nothing_told, last_line, wrong_cause, size_owed, arcs_owed, potentials_owed, owing, answer_from, file_answer, display_answer}
@@ -32,35 +28,35 @@ use Rattle.district.specs.SecondQuery.{is_query, AsksAgain, SecondQueryAt, Refus
 -- ---- one line
 module _ (n : ℕ) (t : Told) where
   -- any other line than a second query's may stand for the display where it may for `routeline`
-  stand_alike : (g : Frame) → (is_query g ≡ true → t.asked ≡ true → ⊥) → may_stand true t g ≡ may_stand false t g
+  stand_alike : (g : Option Frame) → (is_query g ≡ true → t.asked ≡ true → ⊥) → may_stand true t g ≡ may_stand false t g
   unfolding may_stand
-  stand_alike (QueryFrame s e c k) first = by_bool t.asked (λ a. absurd (first refl a)) (λ a. rw a)
-  stand_alike (Size a b) first = refl
-  stand_alike (Arc a b w) first = refl
-  stand_alike (TwoWay a b w) first = refl
-  stand_alike (Potentials v h k) first = refl
-  stand_alike Unsound first = refl
+  stand_alike (Some (QueryFrame s e c k)) first = by_bool t.asked (λ a. absurd (first refl a)) (λ a. rw a)
+  stand_alike (Some (Size a b)) first = refl
+  stand_alike (Some (Arc a b w)) first = refl
+  stand_alike (Some (TwoWay a b w)) first = refl
+  stand_alike (Some (Potentials v h k)) first = refl
+  stand_alike None first = refl
 
-  verdict_alike : (g : Frame) → (is_query g ≡ true → t.asked ≡ true → ⊥) → frame_verdict true n t g ≡ frame_verdict false n t g
+  verdict_alike : (g : Option Frame) → (is_query g ≡ true → t.asked ≡ true → ⊥) → frame_verdict true n t g ≡ frame_verdict false n t g
   unfolding frame_verdict
   verdict_alike g first = rw (stand_alike g first)
 
   -- and the display refuses that one with 11
-  verdict_again : (g : Frame) → is_query g ≡ true → t.asked ≡ true → frame_verdict true n t g ≡ Refused (MisplacedLine n)
+  verdict_again : (g : Option Frame) → is_query g ≡ true → t.asked ≡ true → frame_verdict true n t g ≡ Err (MisplacedLine n)
   unfolding frame_verdict may_stand first_refusal
-  verdict_again (QueryFrame s e c k) query asked = rw (asked, and-false (potentials_read t)) (by_bool (eqb n last_line) (λ p. rw p) (λ p. rw p))
-  verdict_again (Size a b) query asked = absurd (true≢false query refl)
-  verdict_again (Arc a b w) query asked = absurd (true≢false query refl)
-  verdict_again (TwoWay a b w) query asked = absurd (true≢false query refl)
-  verdict_again (Potentials v h k) query asked = absurd (true≢false query refl)
-  verdict_again Unsound query asked = absurd (true≢false query refl)
+  verdict_again (Some (QueryFrame s e c k)) query asked = rw (asked, and-false (potentials_read t)) (by_bool (eqb n last_line) (λ p. rw p) (λ p. rw p))
+  verdict_again (Some (Size a b)) query asked = absurd (true≢false query refl)
+  verdict_again (Some (Arc a b w)) query asked = absurd (true≢false query refl)
+  verdict_again (Some (TwoWay a b w)) query asked = absurd (true≢false query refl)
+  verdict_again (Some (Potentials v h k)) query asked = absurd (true≢false query refl)
+  verdict_again None query asked = absurd (true≢false query refl)
 
   -- a line that is taken may stand
-  taken_stands : (g : Frame) → frame_verdict false n t g ≡ Accepted → may_stand false t g ≡ true
+  taken_stands : (g : Option Frame) → frame_verdict false n t g ≡ Ok tt → may_stand false t g ≡ true
   unfolding frame_verdict first_refusal
   taken_stands g = go (eqb n last_line) (may_stand false t g)
     where
-      go : (last stands : Bool) → first_refusal (given last (MisplacedLine n) ∷ given (not stands) (wrong_cause g n) ∷ size_verdict g ∷ []) ≡ Accepted → stands ≡ true
+      go : (last stands : Bool) → first_refusal (given last (MisplacedLine n) ∷ given (not stands) (wrong_cause g n) ∷ size_verdict g ∷ []) ≡ Ok tt → stands ≡ true
       go true stands e = absurd (refused≢accepted e)
       go false true e = refl
       go false false e = absurd (refused≢accepted e)
@@ -86,21 +82,21 @@ module _ (t : Told) (c : Complete t) where
   none_owed : t.asked ≡ true → owing t ≡ false
   none_owed a = rw (size_there a, arcs_there a, potentials_there a, a)
 
-  complete_next : (g : Frame) → may_stand false t g ≡ true → Complete (told_with t g)
+  complete_next : (g : Option Frame) → may_stand false t g ≡ true → Complete (told_with t g)
   unfolding may_stand told_with
-  complete_next (Size a b) m = record { read = λ q. absurd (true≢false m (size_there q)) }
-  complete_next (Arc a b w) m =
+  complete_next (Some (Size a b)) m = record { read = λ q. absurd (true≢false m (size_there q)) }
+  complete_next (Some (Arc a b w)) m =
       record { read = λ q. absurd (both_true (size_read t) (leb 1 (owed_arcs t)) m (λ s l. omega (arith, leb-true 1 (owed_arcs t) l, ltb-false (length t.tails) t.arcs (arcs_there q)))) }
-  complete_next (TwoWay a b w) m =
+  complete_next (Some (TwoWay a b w)) m =
       record { read = λ q. absurd (both_true (size_read t) (leb 2 (owed_arcs t)) m (λ s l. omega (arith, leb-true 2 (owed_arcs t) l, ltb-false (length t.tails) t.arcs (arcs_there q)))) }
-  complete_next (Potentials v h k) m =
+  complete_next (Some (Potentials v h k)) m =
       record {
         read = λ q. absurd
             (both_true (arcs_read_by t) (potentials_owed t && eqb v (length t.forward)) m
             (λ _ p. both_true (potentials_owed t) (eqb v (length t.forward)) p (λ o _. true≢false o (potentials_there q))));
       }
-  complete_next (QueryFrame s e d k) m = record { read = λ _. both_true (potentials_read t) true m (λ p _. p) }
-  complete_next Unsound m = absurd (true≢false m refl)
+  complete_next (Some (QueryFrame s e d k)) m = record { read = λ _. both_true (potentials_read t) true m (λ p _. p) }
+  complete_next None m = absurd (true≢false m refl)
 
 -- ---- the lines from line n on
 -- as `AsksAgain`, of lines before which t is told
@@ -112,7 +108,7 @@ record AgainIn (t : Told) (whole : List (List ℕ)) (i : ℕ) : Type 0 where
 -- as `SecondQueryAt`, of lines of which the first has number n
 record SecondIn (n : ℕ) (t : Told) (whole : List (List ℕ)) (i : ℕ) : Type 0 where
   pub again : AgainIn t whole i
-  pub taken : (j : ℕ) → j < i → frame_verdict false (n + j) (told_by_lines t (take j whole)) (frame_of (get_or whole j [])) ≡ Accepted
+  pub taken : (j : ℕ) → j < i → frame_verdict false (n + j) (told_by_lines t (take j whole)) (frame_of (get_or whole j [])) ≡ Ok tt
   pub lowest : (j : ℕ) → j < i → AgainIn t whole j → ⊥
 
 -- the FF line of 11 at line n
@@ -142,11 +138,11 @@ module _ (n : ℕ) (t : Told) (line : List ℕ) (more : List (List ℕ)) where
         lowest = λ j h a. s.lowest (suc j) (omega arith) (again_sooner a);
       }
 
-  second_sooner : {i : ℕ} → (is_query (frame_of line) ≡ true → t.asked ≡ true → ⊥) → frame_verdict false n t (frame_of line) ≡ Accepted → SecondIn (n + 1) (told_with t (frame_of line)) more i → SecondIn n t (line ∷ more) (suc i)
+  second_sooner : {i : ℕ} → (is_query (frame_of line) ≡ true → t.asked ≡ true → ⊥) → frame_verdict false n t (frame_of line) ≡ Ok tt → SecondIn (n + 1) (told_with t (frame_of line)) more i → SecondIn n t (line ∷ more) (suc i)
   unfolding told_by_lines
   second_sooner {i} first v s = record { again = again_sooner s.again; taken = taken; lowest = lowest }
     where
-      taken : (j : ℕ) → j < suc i → frame_verdict false (n + j) (told_by_lines t (take j (line ∷ more))) (frame_of (get_or (line ∷ more) j [])) ≡ Accepted
+      taken : (j : ℕ) → j < suc i → frame_verdict false (n + j) (told_by_lines t (take j (line ∷ more))) (frame_of (get_or (line ∷ more) j [])) ≡ Ok tt
       taken zero h = let e : n + 0 ≡ n = omega arith in rw e v
       taken (suc j) h = let e : n + suc j ≡ n + 1 + j = omega arith in rw e (s.taken j (omega arith))
 
@@ -170,7 +166,7 @@ unfolding read_lines end_verdict frame_verdict may_stand
 end_alike n t [] = refl
 end_alike n t (b ∷ rest) = refl
 
-printed_on : (printed : List ℕ) (later : Outcome) → printed_of (then_on Accepted printed later) ≡ printed ++ printed_of later
+printed_on : (printed : List ℕ) (later : Outcome) → printed_of (then_on (Ok tt) printed later) ≡ printed ++ printed_of later
 printed_on printed later = append_assoc printed later.answers (refusal_line later.verdict)
 
 not_both : (a b : Bool) → (a && b) ≡ false → a ≡ true → b ≡ true → ⊥
@@ -187,16 +183,16 @@ module _ (n : ℕ) (t : Told) (line : List ℕ) (more : List (List ℕ)) (rest :
       rw (e, verdict_again n t (frame_of line) query asked, none_owed t c asked)
 
   module _ (first : is_query (frame_of line) ≡ true → t.asked ≡ true → ⊥) where
-    refused_none : {x : Cause} → frame_verdict false n t (frame_of line) ≡ Refused x → (i : ℕ) → SecondIn n t (line ∷ more) i → ⊥
+    refused_none : {x : Cause} → frame_verdict false n t (frame_of line) ≡ Err x → (i : ℕ) → SecondIn n t (line ∷ more) i → ⊥
     unfolding told_by_lines
     refused_none e zero s = first s.again.query s.again.asked
     refused_none e (suc i) s = let z : n + 0 ≡ n = omega arith in refused≢accepted (sym e ∙ (rw z at (s.taken 0 (omega arith))))
 
-    refused_alike : {x : Cause} → frame_verdict false n t (frame_of line) ≡ Refused x → read_lines true n t (line ∷ more) rest ≡ read_lines false n t (line ∷ more) rest
+    refused_alike : {x : Cause} → frame_verdict false n t (frame_of line) ≡ Err x → read_lines true n t (line ∷ more) rest ≡ read_lines false n t (line ∷ more) rest
     unfolding read_lines
     refused_alike e = rw (verdict_alike n t (frame_of line) first, e)
 
-    module _ (taken : frame_verdict false n t (frame_of line) ≡ Accepted) where
+    module _ (taken : frame_verdict false n t (frame_of line) ≡ Ok tt) where
       taken_alike : read_lines true (n + 1) (told_with t (frame_of line)) more rest ≡ read_lines false (n + 1) (told_with t (frame_of line)) more rest
           → read_lines true n t (line ∷ more) rest ≡ read_lines false n t (line ∷ more) rest
       unfolding read_lines
@@ -231,8 +227,8 @@ parted (line ∷ more) n t rest c =
   where
     go : (is_query (frame_of line) ≡ true → t.asked ≡ true → ⊥) → (v : Verdict) → frame_verdict false n t (frame_of line) ≡ v
         → (Complete (told_with t (frame_of line)) → Parted (n + 1) (told_with t (frame_of line)) more rest) → Parted n t (line ∷ more) rest
-    go first (Refused x) e later = alike (refused_none n t line more rest first e) (refused_alike n t line more rest first e)
-    go first Accepted e later = parted_later n t line more rest first e (later (complete_next t c (frame_of line) (taken_stands n t (frame_of line) e)))
+    go first (Err x) e later = alike (refused_none n t line more rest first e) (refused_alike n t line more rest first e)
+    go first (Ok _) e later = parted_later n t line more rest first e (later (complete_next t c (frame_of line) (taken_stands n t (frame_of line) e)))
 
 -- ---- the file up to a line
 -- the lines of a file that begins with a line feed, and with another byte

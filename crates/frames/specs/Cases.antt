@@ -1,9 +1,8 @@
 -- Cases of frames: lines and what they spell, answers and their lines. Each is a list, with one proof over it by computation.
 -- Assumes nothing.
-use Rattle.std.specs.Prelude.{◌≡◌, refl, List, [], ◌∷◌, ◌++◌, map, ℕ, replicate, pos, neg_ℤ}
+use Rattle.std.specs.Prelude.{◌≡◌, refl, List, [], ◌∷◌, ◌++◌, map, ℕ, replicate, pos, neg_ℤ, Option, None, Some}
 use Prim.Native.Char.{code}
 use Prim.Native.String.{String, [] as none, ◌∷◌ as ◌then◌}
-use Rattle.network.specs.declared.Cap.TheVariants.{Uncapped, AtMost}
 use Rattle.network.specs.declared.Figures.{Figures}
 use Rattle.network.specs.declared.Cause.TheVariants.{NodeCount, ArcLists, PotentialLists, StartOrEnd, Pattern, Room, BadArc, BadPotential, Inconsistent, UnsoundLine, MisplacedLine, NoSuchArc, WrongIndex}
 use Rattle.network.specs.declared.Answer.{Answer}
@@ -13,7 +12,7 @@ use Rattle.frames.specs.Signed.{signed_of}
 use Rattle.frames.specs.Frame.{size_of, arc_of, potentials_of, query_of, capped_of, of_kind, frame_of, entries_from, pattern_of}
 use Rattle.frames.specs.AnswerLines.{line_feed, line_of, answer_lines}
 use Rattle.frames.specs.declared.Frame.{Frame}
-use Rattle.frames.specs.declared.Frame.TheVariants.{Size, Arc, TwoWay, Potentials, Query, Unsound}
+use Rattle.frames.specs.declared.Frame.TheVariants.{Size, Arc, TwoWay, Potentials, Query}
 
 -- the bytes of a text
 abbrev bytes : String → List ℕ
@@ -24,17 +23,17 @@ bytes (c then s) = code c ∷ bytes s
 -- a line without its line feed, the frame that it spells, and the entries of its pattern
 pub record Line : Type 0 where
   pub text : List ℕ
-  pub frame : Frame
+  pub frame : Option Frame
   pub entries : List ℕ
 
-abbrev line : List ℕ → Frame → List ℕ → Line
+abbrev line : List ℕ → Option Frame → List ℕ → Line
 line t f p = record { text = t; frame = f; entries = p }
 
 abbrev spells : String → Frame → List ℕ → Line
-spells t f p = line (bytes t) f p
+spells t f p = line (bytes t) (Some f) p
 
 abbrev is_none : String → Line
-is_none t = spells t Unsound []
+is_none t = line (bytes t) None []
 
 -- digits, and then so many times the digit 1
 abbrev ones : String → ℕ → List ℕ
@@ -52,19 +51,19 @@ sound_lines =
     ∷ spells "03000085FD42407A02BDC0" (Potentials 0 (neg_ℤ (pos 2047000000)) (pos 2047000000)) []
     ∷ spells "0307FFFFFFFFFF00000000" (Potentials 2047 (neg_ℤ (pos 1)) (pos 0)) []
     -- 04: the query of D5; no entries and entry F, which the refusal table tests: who refuses them here
-    ∷ spells "04000000030201" (Query 0 3 Uncapped 2) (0 ∷ 1 ∷ [])
-    ∷ spells "040000000300" (Query 0 3 Uncapped 0) []
-    ∷ spells "0400000003020F" (Query 0 3 Uncapped 2) (0 ∷ 15 ∷ [])
+    ∷ spells "04000000030201" (Query 0 3 None 2) (0 ∷ 1 ∷ [])
+    ∷ spells "040000000300" (Query 0 3 None 0) []
+    ∷ spells "0400000003020F" (Query 0 3 None 2) (0 ∷ 15 ∷ [])
     -- 07: the query of D5 at cap 2: who has no such kind, or reads it as 04
-    ∷ spells "070000000300020201" (Query 0 3 (AtMost 2) 2) (0 ∷ 1 ∷ [])
+    ∷ spells "070000000300020201" (Query 0 3 (Some 2) 2) (0 ∷ 1 ∷ [])
     -- fields that all differ: who reads the cap after the pattern's length, or takes the entries from where a 04 has them
-    ∷ spells "0701230456789A031F0" (Query 291 1110 (AtMost 30874) 3) (1 ∷ 15 ∷ 0 ∷ [])
+    ∷ spells "0701230456789A031F0" (Query 291 1110 (Some 30874) 3) (1 ∷ 15 ∷ 0 ∷ [])
     -- the lowest cap and the highest, and no entries: who takes cap 0 for no cap, or refuses what is more than a search needs
-    ∷ spells "0700000003000000" (Query 0 3 (AtMost 0) 0) []
-    ∷ spells "0700000003FFFF00" (Query 0 3 (AtMost 65535) 0) []
+    ∷ spells "0700000003000000" (Query 0 3 (Some 0) 0) []
+    ∷ spells "0700000003FFFF00" (Query 0 3 (Some 65535) 0) []
     -- the longest 04, 267 digits, and the longest line of all, 271: who keeps no room for them, or for 64 entries only
-    ∷ line (ones "0400000003FF" 255) (Query 0 3 Uncapped 255) (replicate 255 1)
-    ∷ line (ones "07000000030002FF" 255) (Query 0 3 (AtMost 2) 255) (replicate 255 1)
+    ∷ line (ones "0400000003FF" 255) (Some (Query 0 3 None 255)) (replicate 255 1)
+    ∷ line (ones "07000000030002FF" 255) (Some (Query 0 3 (Some 2) 255)) (replicate 255 1)
     ∷ []
 
 abbrev unsound_lines : List Line
@@ -119,8 +118,8 @@ unsound_lines =
     ∷ is_none "07000000030201"
     ∷ is_none "040000000300020201"
     -- an entry more than the pattern's length can say
-    ∷ line (ones "0400000003FF" 256) Unsound []
-    ∷ line (ones "07000000030002FF" 256) Unsound []
+    ∷ line (ones "0400000003FF" 256) None []
+    ∷ line (ones "07000000030002FF" 256) None []
     ∷ []
 
 abbrev line_cases : List Line

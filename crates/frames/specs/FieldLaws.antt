@@ -23,7 +23,7 @@ digits_drop zero s p = p
 digits_drop (suc n) [] p = p
 digits_drop (suc n) (x ∷ s) p = digits_drop n s (others_are (ltb (value_of x) 16) (are_digits s) p)
 
-digits_take : (n : ℕ) (s : List ℕ) → are_digits s ≡ true → are_digits (take n s) ≡ true
+pub digits_take : (n : ℕ) (s : List ℕ) → are_digits s ≡ true → are_digits (take n s) ≡ true
 unfolding are_digits
 digits_take zero s p = refl
 digits_take (suc n) [] p = p

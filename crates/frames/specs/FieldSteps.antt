@@ -1,8 +1,7 @@
--- One digit more is read: what each turn of the loops over a line leans on. Assumes nothing.
-use Rattle.std.specs.Prelude.{◌≡◌, refl, Bool, cond, true, false, List, [], ◌∷◌, ℕ, zero, suc, ◌+◌, ◌-◌, ◌*◌, ◌<◌, ◌≤◌, ltb, length, get_or, take, drop}
-use Rattle.std.proofs.Common.{arith, add-one, drop_of_length-le}
-use Rattle.std.proofs.Math.Seq.{drop-cons}
-use borrow.Author.Tests.{ltb-true, lt-ltb, le-ltb}
+-- The digits of a line, one after another: what reading them leans on. Assumes nothing.
+use Rattle.std.specs.Prelude.{◌≡◌, refl, Bool, cond, true, false, ◌&&◌, List, [], ◌∷◌, ℕ, zero, suc, ◌+◌, ◌-◌, ◌*◌, ◌<◌, ◌≤◌, ltb, length, get_or, take, drop}
+use Rattle.std.specs.List.{list_all}
+use Rattle.std.proofs.Common.{arith, add-one, drop-cons, drop_of_length-le, ltb-true, lt-ltb, le-ltb}
 use Rattle.frames.specs.Digits.{value_of, are_digits, number_from}
 
 -- the test of the first byte and of the others, taken apart
@@ -35,7 +34,22 @@ pub digits_none : (s : List ℕ) (i : ℕ) → length s ≤ i → true ≡ are_d
 unfolding are_digits
 digits_none s i h = rw (drop_of_length-le s h)
 
--- one digit more is read
+-- a line is digits where each of its bytes has a value
+pub digits_all : (s : List ℕ) → list_all (λ b. ltb (value_of b) 16) s ≡ are_digits s
+unfolding are_digits
+digits_all [] = refl
+digits_all (b ∷ s) = by_first (ltb (value_of b) 16) (digits_all s)
+  where
+    by_first : (t : Bool) → list_all (λ x. ltb (value_of x) 16) s ≡ are_digits s → (t && list_all (λ x. ltb (value_of x) 16) s) ≡ cond t (are_digits s) false
+    by_first true e = e
+    by_first false e = refl
+
+-- one digit more is read, of a line's end
+pub number_on : (s : List ℕ) (i n : ℕ) → i < length s → number_from (n * 16 + value_of (get_or s i 0)) (drop (i + 1) s) ≡ number_from n (drop i s)
+unfolding number_from
+number_on s i n within = rw (add-one, drop-cons s i 0)
+
+-- one digit more is read, of a piece of a line
 pub number_more :
     (s : List ℕ) (at d i n : ℕ) → i < d → at + i < length s
     → number_from (n * 16 + value_of (get_or s (at + i) 0)) (take (d - (i + 1)) (drop (at + (i + 1)) s)) ≡ number_from n (take (d - i) (drop (at + i) s))

@@ -1,10 +1,9 @@
 -- Nothing is lost between a frame and its line: each frame written out is decoded to itself with its pattern, each sound line
 -- is the line of its frame and pattern, and so two different sound lines differ in frame or pattern. Assumes nothing.
-use Rattle.std.specs.Prelude.{◌≡◌, refl, Bool, true, false, List, [], ◌∷◌, ◌++◌, map, ℕ, suc, ◌+◌, ◌^◌, ◌<◌, ◌≤◌, ℤ, pos, negsuc, ltb, length, take, drop}
-use Rattle.std.proofs.Common.{sym, ap, ◌∙◌, arith, length-append, take-append-drop, drop_of_length-le, drop_at, ltb-true, eq-eqb}
+use Rattle.std.specs.Prelude.{◌≡◌, refl, Bool, true, false, List, [], ◌∷◌, ◌++◌, map, ℕ, suc, ◌+◌, ◌^◌, ◌<◌, ◌≤◌, ℤ, pos, negsuc, ltb, length, take, drop, Option, None, Some}
+use Rattle.std.proofs.Common.{sym, ap, subst, ◌∙◌, arith, length-append, take-append-drop, drop_of_length-le, drop_at, ltb-true, eq-eqb}
 use Rattle.std.specs.Int.Signed.{mag}
 use Rattle.std.proofs.lemmas.List.{length-map}
-use Rattle.network.specs.declared.Cap.TheVariants.{Uncapped, AtMost}
 use Rattle.frames.specs.Digits.{digit_of, value_of, are_digits, number_at, spelled}
 use Rattle.frames.specs.DigitLaws.{value_of_digit, digit_of_value}
 use Rattle.frames.specs.Signed.{signed_of, bits_of}
@@ -15,7 +14,7 @@ use Rattle.frames.specs.Frame.{size_of, arc_frame, arc_of, potentials_of, query_
 use Rattle.frames.specs.FrameCases.{frame_cases, by_kind}
 use Rattle.frames.specs.FrameLine.{frame_line, Below, Spellable}
 use Rattle.frames.specs.declared.Frame.{Frame}
-use Rattle.frames.specs.declared.Frame.TheVariants.{Size, Arc, TwoWay, Potentials, Query, Unsound}
+use Rattle.frames.specs.declared.Frame.TheVariants.{Size, Arc, TwoWay, Potentials, Query}
 
 -- entries below 16, written as digits and read
 below_others : {m b : ℕ} {l : List ℕ} → Below m (b ∷ l) → Below m l
@@ -58,7 +57,7 @@ no_entries : Below 16 []
 no_entries = record { law = λ i h. absurd (omega arith) }
 
 -- where the fields and entries of a line were written, each kind is read: first a size
-size_roundtrip : (n m : ℕ) (p : List ℕ) → Spellable (Size n m) p → frame_of (frame_line (Size n m) p) ≡ Size n m
+size_roundtrip : (n m : ℕ) (p : List ℕ) → Spellable (Size n m) p → frame_of (frame_line (Size n m) p) ≡ Some (Size n m)
 unfolding frame_line of_kind size_of
 size_roundtrip n m p ok =
     let below : Below 16 p = rw ok.2 no_entries in
@@ -86,7 +85,7 @@ unfolding of_kind
 arc_of_kind true s = refl
 arc_of_kind false s = refl
 
-arc_roundtrip : (both : Bool) (t a w : ℕ) (p : List ℕ) → Spellable (Arc t a w) p → frame_of (spelled (2 ∷ 4 ∷ 4 ∷ 8 ∷ []) (arc_kind both ∷ t ∷ a ∷ w ∷ []) ++ map digit_of p) ≡ arc_frame both t a w
+arc_roundtrip : (both : Bool) (t a w : ℕ) (p : List ℕ) → Spellable (Arc t a w) p → frame_of (spelled (2 ∷ 4 ∷ 4 ∷ 8 ∷ []) (arc_kind both ∷ t ∷ a ∷ w ∷ []) ++ map digit_of p) ≡ Some (arc_frame both t a w)
 unfolding arc_of
 arc_roundtrip both t a w p ok =
     let below : Below 16 p = rw ok.3 no_entries in
@@ -102,7 +101,7 @@ arc_roundtrip both t a w p ok =
     sym (by_kind s (arc_kind both) (line_digits inside p below) kind)
     ∙ (arc_of_kind both s ∙ rw (eq-eqb _ _ size, tail, head, weight))
 
-potentials_roundtrip : (n : ℕ) (h k : ℤ) (p : List ℕ) → Spellable (Potentials n h k) p → frame_of (frame_line (Potentials n h k) p) ≡ Potentials n h k
+potentials_roundtrip : (n : ℕ) (h k : ℤ) (p : List ℕ) → Spellable (Potentials n h k) p → frame_of (frame_line (Potentials n h k) p) ≡ Some (Potentials n h k)
 unfolding frame_line of_kind potentials_of
 potentials_roundtrip n h k p ok =
     let below : Below 16 p = rw ok.3 no_entries in
@@ -122,14 +121,14 @@ potentials_roundtrip n h k p ok =
     ∙ rw (eq-eqb _ _ size, node, forward, backward, signed_of_bits h ok.1, signed_of_bits k ok.2)
 
 -- a query's fields, and that they fit
-query_fits : (a b n : ℕ) (p : List ℕ) → Spellable (Query a b Uncapped n) p → InFields (2 ∷ 4 ∷ 4 ∷ 2 ∷ []) (4 ∷ a ∷ b ∷ n ∷ [])
+query_fits : (a b n : ℕ) (p : List ℕ) → Spellable (Query a b None n) p → InFields (2 ∷ 4 ∷ 4 ∷ 2 ∷ []) (4 ∷ a ∷ b ∷ n ∷ [])
 query_fits a b n p ok = one 2 4 (omega arith) (one 4 a (omega arith) (one 4 b (omega arith) (one 2 n (omega arith) none)))
 
-query_roundtrip : (a b n : ℕ) (p : List ℕ) → Spellable (Query a b Uncapped n) p → frame_of (frame_line (Query a b Uncapped n) p) ≡ Query a b Uncapped n
+query_roundtrip : (a b n : ℕ) (p : List ℕ) → Spellable (Query a b None n) p → frame_of (frame_line (Query a b None n) p) ≡ Some (Query a b None n)
 unfolding frame_line of_kind query_of
 query_roundtrip a b n p ok =
     let inside : InFields (2 ∷ 4 ∷ 4 ∷ 2 ∷ []) (4 ∷ a ∷ b ∷ n ∷ []) = query_fits a b n p ok in
-    let s = frame_line (Query a b Uncapped n) p in
+    let s = frame_line (Query a b None n) p in
     let fields : fields_at 0 (2 ∷ 4 ∷ 4 ∷ 2 ∷ []) s ≡ 4 ∷ a ∷ b ∷ n ∷ [] = line_fields inside p ok.4 in
     let kind : number_at s 0 2 ≡ 4 = cc in
     let start : number_at s 2 4 ≡ a = cc in
@@ -139,16 +138,16 @@ query_roundtrip a b n p ok =
     sym (by_kind s 4 (line_digits inside p ok.4) kind) ∙ rw (eq-eqb _ _ size, start, end, entries)
 
 -- the same with a cap
-capped_fits : (a b c n : ℕ) (p : List ℕ) → Spellable (Query a b (AtMost c) n) p → InFields (2 ∷ 4 ∷ 4 ∷ 4 ∷ 2 ∷ []) (7 ∷ a ∷ b ∷ c ∷ n ∷ [])
+capped_fits : (a b c n : ℕ) (p : List ℕ) → Spellable (Query a b (Some c) n) p → InFields (2 ∷ 4 ∷ 4 ∷ 4 ∷ 2 ∷ []) (7 ∷ a ∷ b ∷ c ∷ n ∷ [])
 capped_fits a b c n p ok =
     one 2 7 (omega arith)
     (one 4 a (omega arith) (one 4 b (omega arith) (one 4 c (omega arith) (one 2 n (omega arith) none))))
 
-capped_roundtrip : (a b c n : ℕ) (p : List ℕ) → Spellable (Query a b (AtMost c) n) p → frame_of (frame_line (Query a b (AtMost c) n) p) ≡ Query a b (AtMost c) n
+capped_roundtrip : (a b c n : ℕ) (p : List ℕ) → Spellable (Query a b (Some c) n) p → frame_of (frame_line (Query a b (Some c) n) p) ≡ Some (Query a b (Some c) n)
 unfolding frame_line of_kind capped_of
 capped_roundtrip a b c n p ok =
     let inside : InFields (2 ∷ 4 ∷ 4 ∷ 4 ∷ 2 ∷ []) (7 ∷ a ∷ b ∷ c ∷ n ∷ []) = capped_fits a b c n p ok in
-    let s = frame_line (Query a b (AtMost c) n) p in
+    let s = frame_line (Query a b (Some c) n) p in
     let fields : fields_at 0 (2 ∷ 4 ∷ 4 ∷ 4 ∷ 2 ∷ []) s ≡ 7 ∷ a ∷ b ∷ c ∷ n ∷ [] = line_fields inside p ok.5 in
     let kind : number_at s 0 2 ≡ 7 = cc in
     let start : number_at s 2 4 ≡ a = cc in
@@ -159,30 +158,28 @@ capped_roundtrip a b c n p ok =
     sym (by_kind s 7 (line_digits inside p ok.5) kind) ∙ rw (eq-eqb _ _ size, start, end, cap, entries)
 
 -- each frame written out and decoded is the same frame
-pub frame_roundtrip : (f : Frame) (p : List ℕ) → Spellable f p → frame_of (frame_line f p) ≡ f
+pub frame_roundtrip : (f : Frame) (p : List ℕ) → Spellable f p → frame_of (frame_line f p) ≡ Some f
 unfolding frame_line
 frame_roundtrip (Size n m) p ok = size_roundtrip n m p ok
 frame_roundtrip (Arc t h w) p ok = arc_roundtrip false t h w p ok
 frame_roundtrip (TwoWay t h w) p ok = arc_roundtrip true t h w p ok
 frame_roundtrip (Potentials n h k) p ok = potentials_roundtrip n h k p ok
-frame_roundtrip (Query a b Uncapped n) p ok = query_roundtrip a b n p ok
-frame_roundtrip (Query a b (AtMost c) n) p ok = capped_roundtrip a b c n p ok
-frame_roundtrip Unsound p ok = absurd ok
+frame_roundtrip (Query a b None n) p ok = query_roundtrip a b n p ok
+frame_roundtrip (Query a b (Some c) n) p ok = capped_roundtrip a b c n p ok
 
 -- the digits after a query's fields are its entries
 fields_entries : {ws vs : List ℕ} (p : List ℕ) → InFields ws vs → Below 16 p → entries_from (total ws) (spelled ws vs ++ map digit_of p) ≡ p
 unfolding entries_from
 fields_entries {ws} {vs} p inside b = rw (drop_at (spelled ws vs) (map digit_of p) (total ws) (length_spelled inside)) (entries_roundtrip p b)
 
-entries_again : (f : Frame) (p : List ℕ) → Spellable f p → entries_of f (frame_line f p) ≡ p
+entries_again : (f : Frame) (p : List ℕ) → Spellable f p → entries_of (Some f) (frame_line f p) ≡ p
 unfolding frame_line
 entries_again (Size n m) p h = sym h.2
 entries_again (Arc t a w) p h = sym h.3
 entries_again (TwoWay t a w) p h = sym h.3
 entries_again (Potentials n a k) p h = sym h.3
-entries_again (Query a b Uncapped n) p h = fields_entries p (query_fits a b n p h) h.4
-entries_again (Query a b (AtMost c) n) p h = fields_entries p (capped_fits a b c n p h) h.5
-entries_again Unsound p h = absurd h
+entries_again (Query a b None n) p h = fields_entries p (query_fits a b n p h) h.4
+entries_again (Query a b (Some c) n) p h = fields_entries p (capped_fits a b c n p h) h.5
 
 -- and its pattern is the same pattern
 pub pattern_roundtrip : (f : Frame) (p : List ℕ) → Spellable f p → pattern_of (frame_line f p) ≡ p
@@ -204,23 +201,28 @@ module _ (s : List ℕ) (ws : List ℕ) (kind : ℕ) (d : are_digits s ≡ true)
       rw (drop_of_length-le s all) at (digits_rewritten (omega arith))
 
 -- a sound line is the line of its frame and its pattern
-pub line_rewritten : (s : List ℕ) → (frame_of s ≡ Unsound → ⊥) → frame_line (frame_of s) (pattern_of s) ≡ s
+pub line_rewritten : (s : List ℕ) {f : Frame} → frame_of s ≡ Some f → frame_line f (pattern_of s) ≡ s
 unfolding pattern_of entries_from frame_line
-line_rewritten s =
-    frame_cases s (λ (f : Frame). (f ≡ Unsound → ⊥) → frame_line f (entries_of f s) ≡ s)
-    (λ h. absurd (h refl))
-    (λ d k l h. fields_only s (4 ∷ 4 ∷ []) 1 d k l)
-    (λ d k l h. fields_only s (4 ∷ 4 ∷ 8 ∷ []) 2 d k l)
-    (λ d k l h. fields_only s (4 ∷ 4 ∷ 8 ∷ []) 5 d k l)
+line_rewritten s {f} =
+    frame_cases s (λ (r : Option Frame). r ≡ Some f → frame_line f (entries_of r s) ≡ s)
+    (λ h. cc)
+    (λ d k l h. same_frame (fields_only s (4 ∷ 4 ∷ []) 1 d k l) h)
+    (λ d k l h. same_frame (fields_only s (4 ∷ 4 ∷ 8 ∷ []) 2 d k l) h)
+    (λ d k l h. same_frame (fields_only s (4 ∷ 4 ∷ 8 ∷ []) 5 d k l) h)
     (λ d k l h.
     let forward : bits_of (signed_of (number_at s 6 8)) ≡ number_at s 6 8 = bits_of_signed _ (number_below s 6 8 d (omega arith)) in
     let backward : bits_of (signed_of (number_at s 14 8)) ≡ number_at s 14 8 = bits_of_signed _ (number_below s 14 8 d (omega arith)) in
-    rw (forward, backward) (fields_only s (4 ∷ 8 ∷ 8 ∷ []) 3 d k l))
-    (λ d k l h. digits_rewritten s (4 ∷ 4 ∷ 2 ∷ []) 4 d k (omega arith))
-    (λ d k l h. digits_rewritten s (4 ∷ 4 ∷ 4 ∷ 2 ∷ []) 7 d k (omega arith))
+    same_frame (rw (forward, backward) (fields_only s (4 ∷ 8 ∷ 8 ∷ []) 3 d k l)) h)
+    (λ d k l h. same_frame (digits_rewritten s (4 ∷ 4 ∷ 2 ∷ []) 4 d k (omega arith)) h)
+    (λ d k l h. same_frame (digits_rewritten s (4 ∷ 4 ∷ 4 ∷ 2 ∷ []) 7 d k (omega arith)) h)
+  where
+    same_frame : {g : Frame} → frame_line g (entries_of (Some g) s) ≡ s → Some g ≡ Some f → frame_line f (entries_of (Some g) s) ≡ s
+    same_frame {g} e h = let same : g ≡ f = cc in subst (λ (x : Frame). frame_line x (entries_of (Some g) s) ≡ s) same e
 
 -- two sound lines with the same frame and the same pattern are the same line
-pub line_determined : (s t : List ℕ) → (frame_of s ≡ Unsound → ⊥) → frame_of s ≡ frame_of t → pattern_of s ≡ pattern_of t → s ≡ t
-line_determined s t sound f p =
-    let sound' : frame_of t ≡ Unsound → ⊥ = λ e. sound (f ∙ e) in
-    sym (line_rewritten s sound) ∙ (rw (f, p) (line_rewritten t sound'))
+pub line_determined : (s t : List ℕ) → (frame_of s ≡ None → ⊥) → frame_of s ≡ frame_of t → pattern_of s ≡ pattern_of t → s ≡ t
+line_determined s t sound f p = by_frame (frame_of s) refl
+  where
+    by_frame : (r : Option Frame) → frame_of s ≡ r → s ≡ t
+    by_frame None e = absurd (sound e)
+    by_frame (Some g) e = sym (line_rewritten s e) ∙ (rw p (line_rewritten t (sym f ∙ e)))

@@ -1,12 +1,11 @@
 -- The line that spells a frame: the writer's side of the table of input kinds (docs/RULES.md, "District frames"). No contract
 -- cites it; the laws use it to say that nothing is lost between a frame and its line. Definitions only. Assumes nothing.
-use Rattle.std.specs.Prelude.{◌≡◌, List, [], ◌∷◌, ◌++◌, map, ℕ, ◌<◌, length, get_or}
+use Rattle.std.specs.Prelude.{◌≡◌, List, [], ◌∷◌, ◌++◌, map, ℕ, ◌<◌, length, get_or, None, Some}
 use Rattle.std.specs.Int.Signed.{mag}
-use Rattle.network.specs.declared.Cap.TheVariants.{Uncapped, AtMost}
 use Rattle.frames.specs.Digits.{digit_of, spelled}
 use Rattle.frames.specs.Signed.{bits_of}
 use Rattle.frames.specs.declared.Frame.{Frame}
-use Rattle.frames.specs.declared.Frame.TheVariants.{Size, Arc, TwoWay, Potentials, Query, Unsound}
+use Rattle.frames.specs.declared.Frame.TheVariants.{Size, Arc, TwoWay, Potentials, Query}
 
 -- the widths of a frame's fields, its kind's first
 abbrev pub frame_widths : Frame → List ℕ
@@ -14,9 +13,8 @@ frame_widths (Size n m) = 2 ∷ 4 ∷ 4 ∷ []
 frame_widths (Arc t h w) = 2 ∷ 4 ∷ 4 ∷ 8 ∷ []
 frame_widths (TwoWay t h w) = 2 ∷ 4 ∷ 4 ∷ 8 ∷ []
 frame_widths (Potentials n h k) = 2 ∷ 4 ∷ 8 ∷ 8 ∷ []
-frame_widths (Query a b Uncapped n) = 2 ∷ 4 ∷ 4 ∷ 2 ∷ []
-frame_widths (Query a b (AtMost c) n) = 2 ∷ 4 ∷ 4 ∷ 4 ∷ 2 ∷ []
-frame_widths Unsound = []
+frame_widths (Query a b None n) = 2 ∷ 4 ∷ 4 ∷ 2 ∷ []
+frame_widths (Query a b (Some c) n) = 2 ∷ 4 ∷ 4 ∷ 4 ∷ 2 ∷ []
 
 -- the values of a frame's fields, its kind first
 abbrev pub frame_values : Frame → List ℕ
@@ -24,9 +22,8 @@ frame_values (Size n m) = 1 ∷ n ∷ m ∷ []
 frame_values (Arc t h w) = 2 ∷ t ∷ h ∷ w ∷ []
 frame_values (TwoWay t h w) = 5 ∷ t ∷ h ∷ w ∷ []
 frame_values (Potentials n h k) = 3 ∷ n ∷ bits_of h ∷ bits_of k ∷ []
-frame_values (Query a b Uncapped n) = 4 ∷ a ∷ b ∷ n ∷ []
-frame_values (Query a b (AtMost c) n) = 7 ∷ a ∷ b ∷ c ∷ n ∷ []
-frame_values Unsound = []
+frame_values (Query a b None n) = 4 ∷ a ∷ b ∷ n ∷ []
+frame_values (Query a b (Some c) n) = 7 ∷ a ∷ b ∷ c ∷ n ∷ []
 
 -- the line of a frame and its pattern: the fields, then one digit an entry
 unfoldable pub frame_line : Frame → List ℕ → List ℕ
@@ -43,6 +40,5 @@ Spellable (Size n m) p = (n < 65536) × (m < 65536) × (p ≡ [])
 Spellable (Arc t h w) p = (t < 65536) × (h < 65536) × (w < 4294967296) × (p ≡ [])
 Spellable (TwoWay t h w) p = (t < 65536) × (h < 65536) × (w < 4294967296) × (p ≡ [])
 Spellable (Potentials n h k) p = (n < 65536) × (mag h < 2147483648) × (mag k < 2147483648) × (p ≡ [])
-Spellable (Query a b Uncapped n) p = (a < 65536) × (b < 65536) × (n < 256) × (length p ≡ n) × Below 16 p
-Spellable (Query a b (AtMost c) n) p = (a < 65536) × (b < 65536) × (c < 65536) × (n < 256) × (length p ≡ n) × Below 16 p
-Spellable Unsound p = ⊥
+Spellable (Query a b None n) p = (a < 65536) × (b < 65536) × (n < 256) × (length p ≡ n) × Below 16 p
+Spellable (Query a b (Some c) n) p = (a < 65536) × (b < 65536) × (c < 65536) × (n < 256) × (length p ≡ n) × Below 16 p

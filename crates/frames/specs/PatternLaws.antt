@@ -1,10 +1,10 @@
 -- The entries of a query's pattern: one more is read, how many there are, and that they are the line's last digits.
 -- Assumes nothing.
-use Rattle.std.specs.Prelude.{◌≡◌, List, [], ◌∷◌, ℕ, suc, ◌+◌, ◌-◌, ◌<◌, ◌≤◌, get_or}
+use Rattle.std.specs.Prelude.{◌≡◌, List, [], ◌∷◌, ℕ, suc, Option, Some, ◌+◌, ◌-◌, ◌<◌, ◌≤◌, get_or}
 use Rattle.std.proofs.Common.{arith, length-drop, drop_of_length-le, drop-cons}
 use Rattle.std.proofs.Math.ListN.{length}
 use Rattle.std.proofs.lemmas.List.{length-map}
-use Rattle.network.specs.declared.Cap.{Cap}
+use Rattle.network.specs.Cap.{Cap}
 use Rattle.frames.specs.Digits.{value_of}
 use Rattle.frames.specs.FieldLaws.{number_below}
 use Rattle.frames.specs.Frame.{frame_of, digits_before, entries_from, entries_of, pattern_of}
@@ -23,12 +23,13 @@ pub entries_all_read : (at : ℕ) (s : List ℕ) → length s ≤ at → entries
 unfolding entries_from
 entries_all_read at s h = rw (drop_of_length-le s h)
 
+-- how many entries a line has from a place on
 pub length_entries : (at : ℕ) (s : List ℕ) → length (entries_from at s) ≡ length s - at
 unfolding entries_from
 length_entries at s = simp (length-map, length-drop)
 
 -- the pattern of a query's line: its last digits, as many as its length says
-module _ (s : List ℕ) {a b n : ℕ} {cap : Cap} (e : frame_of s ≡ Query a b cap n) where
+module _ (s : List ℕ) {a b n : ℕ} {cap : Cap} (e : frame_of s ≡ Some (Query a b cap n)) where
   pub query_pattern : entries_from (length s - n) s ≡ pattern_of s
   unfolding pattern_of
   query_pattern =
@@ -42,7 +43,7 @@ module _ (s : List ℕ) {a b n : ℕ} {cap : Cap} (e : frame_of s ≡ Query a b 
 pub pattern_short : (s : List ℕ) → length (pattern_of s) ≤ 255
 unfolding pattern_of
 pattern_short s =
-    frame_cases s (λ (f : Frame). length (entries_of f s) ≤ 255)
+    frame_cases s (λ (f : Option Frame). length (entries_of f s) ≤ 255)
     (omega arith)
     (λ d k l. omega arith)
     (λ d k l. omega arith)

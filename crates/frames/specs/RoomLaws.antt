@@ -1,8 +1,7 @@
 -- Texts laid part by part. A text is underway in a room while its first entries stand at the front, the rest is still to come,
 -- and nothing beyond has changed; each writer takes it one part further. Assumes nothing.
 use Rattle.std.specs.Prelude.{◌≡◌, refl, Bool, true, false, cond, ℕ, suc, ◌+◌, ◌-◌, ◌<◌, ◌≤◌, leb, set}
-use Rattle.std.proofs.Common.{sym, ap, ◌∙◌, arith, le_refl, add-one, length-append, length-set, take-append-drop, take_at, drop_at, take-suc-set, drop-set-lt, length-take-le, le-leb, leb-true}
-use mathlib.Core.List.{List, [], ◌∷◌, ◌++◌, append_assoc, append-nil}
+use Rattle.std.proofs.Common.{sym, ap, ◌∙◌, arith, le_refl, add-one, length-append, length-set, take-append-drop, take_at, drop_at, take-suc-set, drop-set-lt, length-take-le, le-leb, leb-true, List, [], ◌∷◌, ◌++◌, append_assoc, append-nil}
 use Rattle.std.proofs.Math.ListN.{length, take, drop, length-drop, drop_of_length-le}
 use Rattle.std.proofs.Math.Seq.{drop-drop, take_all}
 use Rattle.std.proofs.lemmas.Bool.{lt-leb}

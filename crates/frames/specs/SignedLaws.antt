@@ -1,13 +1,18 @@
 -- The number that a number's bits spell is the number, and the bits of what bits spell are those bits. Assumes nothing.
 use Rattle.std.specs.Prelude.{◌≡◌, refl, Bool, cond, true, false, ℕ, zero, suc, ◌-◌, ◌<◌, ◌≤◌, ltb, ℤ, pos, negsuc, ◌-ℤ◌}
-use Rattle.std.proofs.Common.{ap, arith, zero-add, lt-ltb, le-ltb}
+use Rattle.std.proofs.Common.{ap, arith, zero-add, to_z, w32, lt-ltb, le-ltb}
 use Rattle.std.specs.Int.Signed.{mag}
 use Rattle.frames.specs.Signed.{signed_of, bits_of}
 
--- -1 - y, as the code computes it
+-- -1 - y
 pub minus_one_less : (y : ℕ) → negsuc 0 -ℤ pos y ≡ negsuc y
 minus_one_less zero = refl
 minus_one_less (suc n) = ap (λ (m : ℕ). negsuc (suc m)) (zero-add n)
+
+-- what a cast to a signed number gives is the number that its bits spell
+pub signed_of_cast : (n : ℕ) → n < 4294967296 → to_z w32 n ≡ signed_of n
+unfolding signed_of
+signed_of_cast n h = let same : 4294967296 - suc n ≡ 4294967295 - n = omega arith in rw same
 
 pub signed_of_bits : (z : ℤ) → mag z < 2147483648 → signed_of (bits_of z) ≡ z
 unfolding signed_of bits_of

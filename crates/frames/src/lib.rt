@@ -3,13 +3,10 @@
 // A line is taken here without its line feed.
 #![tactic(auto)]
 
-ghost use Rattle.std.specs.Prelude.{◌≡◌, ◌<◌, ◌≤◌, ◌+◌, ◌^◌, length};
+ghost use Rattle.std.specs.Prelude.{◌≡◌, ◌<◌, ◌≤◌, ◌+◌, ◌^◌, length, map};
 ghost use Rattle.frames.specs.Digits.{value_of, value_table, are_digits, Readable, number_at};
-ghost use Rattle.frames.specs.Signed.{signed_of};
-ghost use Rattle.frames.specs.Frame.{size_of, arc_of, potentials_of, query_of, capped_of, frame_of, entries_from, pattern_of};
+ghost use Rattle.frames.specs.Frame.{size_of, arc_of, potentials_of, sought_of, frame_of, pattern_of};
 ghost use Rattle.frames.specs.Room.{laid, Placed};
-
-use network::Cap;
 
 // The value of each of the 256 bytes as an upper-case digit, 255 where it is none; 64 bytes a line.
 const VALUES: [u8; 256] =
@@ -39,8 +36,8 @@ pub const MOST_PATTERN: usize = 255;
 // The most digits that an input frame can have: a capped query with that many entries.
 pub const MOST_DIGITS: usize = CAPPED_DIGITS + MOST_PATTERN;
 
-// What an input line says: one case for each kind, 01, 02, 05 and 03, one for the queries 04 and 07, or no sound frame. A query
-// holds its cap, which a 04 has not, and the length of its pattern; `pattern_of` hands out the entries.
+// What a sound input line says: one case for each kind, 01, 02, 05 and 03, and one for the queries 04 and 07. A query holds its
+// cap, which a 04 has not, and the length of its pattern; `pattern_of` hands out the entries.
 #[derive(Clone, Copy)]
 pub enum Frame {
     Size {
@@ -65,10 +62,9 @@ pub enum Frame {
     Query {
         start: u16,
         end: u16,
-        cap: Cap,
+        cap: Option<u16>,
         entries: u8,
     },
-    Unsound,
 }
 
 // The value of a byte. The table is laid out once for a line, and once more for the entries of a query, and lent, since each use of
@@ -77,7 +73,7 @@ fn value(table: &[u8; 256], byte: u8) -> u8
     requires { table.now ≡ value_table }
     ensures { result ≡ value_of byte }
 {
-    table[byte as usize]
+    table[usize::from(byte)]
 }
 
 // Whether a line has upper-case digits and nothing else.
@@ -85,200 +81,177 @@ fn are_digits(table: &[u8; 256], line: &[u8]) -> bool
     requires { table.now ≡ value_table }
     ensures { result ≡ are_digits line.now }
 {
-    let mut i = 0;
-    while i < line.len() {
-        if value(table, line[i]) > 15 {
-            return false;
+    line.iter().all(|&byte| value(table, byte) < 16)
+}
+
+// A line of upper-case digits and nothing else, and the table that they are read by.
+#[derive(Clone, Copy)]
+struct DigitLine<'a> {
+    table: &'a [u8; 256],
+    line: &'a [u8],
+    ghost readable: { Readable table.now line.now },
+}
+
+// A number of four digits fits 16 bits and one of two fits 8: the check proves it at each `as`, where `try_from` would add a
+// refusal that cannot come.
+impl DigitLine<'_> {
+    // The number that the digits at a place of the line spell, highest first.
+    fn number(self, at: usize, digits: usize) -> u32
+        requires { (digits ≤ 8) × (at + digits ≤ length self.line.now) }
+        ensures is { result ≡ number_at self.entry.line.now at digits }
+        ensures below { result < 16 ^ digits }
+    {
+        let field = &self.line[at..at + digits];
+        let mut n: u32 = 0;
+        for &byte in field {
+            n = n * 16 + u32::from(value(self.table, byte));
         }
-        i += 1;
+        n
     }
-    true
-}
 
-// The number that the digits at a place of a line spell, highest first.
-fn number(table: &[u8; 256], line: &[u8], at: usize, digits: usize) -> u32
-    requires { Readable table.now line.now × (digits ≤ 8) × (at + digits ≤ length line.now) }
-    ensures is { result ≡ number_at line.now at digits }
-    ensures below { result < 16 ^ digits }
-{
-    let mut n: u32 = 0;
-    let mut i = 0;
-    while i < digits {
-        n = n * 16 + value(table, line[at + i]) as u32;
-        i += 1;
+    // The frame of a line of kind 01.
+    #[tactic(auto, unfolding(crate::specs::Frame::size_of))]
+    fn size(self) -> Option<Frame>
+        ensures { result ≡ size_of self.entry.line.now }
+    {
+        if self.line.len() != SIZE_DIGITS {
+            return None;
+        }
+        Some(Frame::Size {
+            nodes: self.number(2, 4) as u16,
+            arcs: self.number(6, 4) as u16,
+        })
     }
-    n
-}
 
-// The number that eight digits spell in two's complement.
-fn signed(bits: u32) -> i32
-    ensures { result ≡ signed_of bits }
-{
-    if bits < 0x8000_0000 {
-        bits as i32
-    } else {
-        -1 - ((0xFFFF_FFFF - bits) as i32)
+    // The frame of a line of kind 02, or, for a yes, of kind 05, which has the same fields: a case for each would read them twice.
+    #[tactic(auto, unfolding(crate::specs::Frame::arc_of))]
+    fn arc(self, both: bool) -> Option<Frame>
+        ensures { result ≡ arc_of both self.entry.line.now }
+    {
+        if self.line.len() != ARC_DIGITS {
+            return None;
+        }
+        let tail = self.number(2, 4) as u16;
+        let head = self.number(6, 4) as u16;
+        let weight = self.number(10, 8);
+        Some(if both {
+            Frame::TwoWay { tail, head, weight }
+        } else {
+            Frame::Arc { tail, head, weight }
+        })
     }
-}
 
-// A line of kind 01.
-fn size_frame(table: &[u8; 256], line: &[u8]) -> Frame
-    requires { Readable table.now line.now }
-    ensures { result ≡ size_of line.now }
-{
-    if line.len() != SIZE_DIGITS {
-        return Frame::Unsound;
+    // The frame of a line of kind 03.
+    #[tactic(auto, using(crate::specs::SignedLaws::signed_of_cast), unfolding(crate::specs::Frame::potentials_of))]
+    fn potentials(self) -> Option<Frame>
+        ensures { result ≡ potentials_of self.entry.line.now }
+    {
+        if self.line.len() != POTENTIALS_DIGITS {
+            return None;
+        }
+        Some(Frame::Potentials {
+            node: self.number(2, 4) as u16,
+            h: self.number(6, 8).cast_signed(),
+            k: self.number(14, 8).cast_signed(),
+        })
     }
-    let nodes = number(table, line, 2, 4) as u16;
-    let arcs = number(table, line, 6, 4) as u16;
-    Frame::Size { nodes, arcs }
-}
 
-// A line of kind 02, or of kind 05, which has the same fields.
-fn arc_frame(table: &[u8; 256], line: &[u8], both: bool) -> Frame
-    requires { Readable table.now line.now }
-    ensures { result ≡ arc_of both line.now }
-{
-    if line.len() != ARC_DIGITS {
-        return Frame::Unsound;
-    }
-    let tail = number(table, line, 2, 4) as u16;
-    let head = number(table, line, 6, 4) as u16;
-    let weight = number(table, line, 10, 8);
-    if both {
-        Frame::TwoWay { tail, head, weight }
-    } else {
-        Frame::Arc { tail, head, weight }
-    }
-}
-
-// A line of kind 03.
-fn potentials_frame(table: &[u8; 256], line: &[u8]) -> Frame
-    requires { Readable table.now line.now }
-    ensures { result ≡ potentials_of line.now }
-{
-    if line.len() != POTENTIALS_DIGITS {
-        return Frame::Unsound;
-    }
-    let node = number(table, line, 2, 4) as u16;
-    let h = signed(number(table, line, 6, 8));
-    let k = signed(number(table, line, 14, 8));
-    Frame::Potentials { node, h, k }
-}
-
-// A line of kind 04: as many digits follow the pattern's length as it says.
-fn query_frame(table: &[u8; 256], line: &[u8]) -> Frame
-    requires { Readable table.now line.now }
-    ensures { result ≡ query_of line.now }
-{
-    if line.len() < QUERY_DIGITS {
-        return Frame::Unsound;
-    }
-    let entries = number(table, line, 10, 2);
-    if line.len() - QUERY_DIGITS != entries as usize {
-        return Frame::Unsound;
-    }
-    let start = number(table, line, 2, 4) as u16;
-    let end = number(table, line, 6, 4) as u16;
-    Frame::Query {
-        start,
-        end,
-        cap: Cap::Uncapped,
-        entries: entries as u8,
+    // The frame of a line of kind 04, or, for a yes, of kind 07, which has a cap before the pattern's length (docs/RULES.md,
+    // "Capped queries"): as many digits follow the pattern's length as it says. A case for each would read the other fields twice.
+    #[tactic(auto, unfolding(crate::specs::Frame::query_of, crate::specs::Frame::capped_of))]
+    fn query(self, capped: bool) -> Option<Frame>
+        ensures { result ≡ sought_of capped self.entry.line.now }
+    {
+        let fields = if capped { CAPPED_DIGITS } else { QUERY_DIGITS };
+        if self.line.len() < fields {
+            return None;
+        }
+        let entries = self.number(fields - 2, 2);
+        if self.line.len() - fields != entries as usize {
+            return None;
+        }
+        let cap = if capped {
+            Some(self.number(10, 4) as u16)
+        } else {
+            None
+        };
+        Some(Frame::Query {
+            start: self.number(2, 4) as u16,
+            end: self.number(6, 4) as u16,
+            cap,
+            entries: entries as u8,
+        })
     }
 }
 
-// A line of kind 07 (docs/RULES.md, "Capped queries"): as 04, with a cap before the pattern's length.
-fn capped_frame(table: &[u8; 256], line: &[u8]) -> Frame
-    requires { Readable table.now line.now }
-    ensures { result ≡ capped_of line.now }
-{
-    if line.len() < CAPPED_DIGITS {
-        return Frame::Unsound;
-    }
-    let entries = number(table, line, 14, 2);
-    if line.len() - CAPPED_DIGITS != entries as usize {
-        return Frame::Unsound;
-    }
-    let start = number(table, line, 2, 4) as u16;
-    let end = number(table, line, 6, 4) as u16;
-    let cap = number(table, line, 10, 4) as u16;
-    Frame::Query {
-        start,
-        end,
-        cap: Cap::AtMost(cap),
-        entries: entries as u8,
-    }
-}
-
-// The frame that a line of two digits or more spells: its kind says which fields it has.
-fn frame_in(table: &[u8; 256], line: &[u8]) -> Frame
+// The frame that a line of two digits or more spells, if it is sound: its kind says which fields it has.
+#[tactic(auto, unfolding(crate::specs::Frame::frame_of, crate::specs::Frame::of_kind))]
+fn frame_in(table: &[u8; 256], line: &[u8]) -> Option<Frame>
     requires { (table.now ≡ value_table) × (2 ≤ length line.now) }
     ensures { result ≡ frame_of line.now }
 {
-    if are_digits(table, line) {
-        return match number(table, line, 0, 2) {
-            1 => size_frame(table, line),
-            2 => arc_frame(table, line, false),
-            3 => potentials_frame(table, line),
-            4 => query_frame(table, line),
-            5 => arc_frame(table, line, true),
-            7 => capped_frame(table, line),
-            _ => Frame::Unsound,
-        };
+    if !are_digits(table, line) {
+        return None;
     }
-    Frame::Unsound
+    let digits = DigitLine { table, line };
+    // The kinds are the numbers by which docs/RULES.md names them, and stand here alone: an enum of them would name each once more.
+    match digits.number(0, 2) {
+        1 => digits.size(),
+        2 => digits.arc(false),
+        3 => digits.potentials(),
+        4 => digits.query(false),
+        5 => digits.arc(true),
+        7 => digits.query(true),
+        _ => None,
+    }
 }
 
-// The frame that a line spells, the line taken without its line feed. No frame is shorter than a size, and none longer
-// than a capped query with the most entries, so such a line is not looked into.
-pub fn decode(line: &[u8]) -> Frame
+// The frame that a line spells, the line taken without its line feed, or none where it is no sound frame. No frame is shorter
+// than a size, and none longer than a capped query with the most entries, so such a line is not looked into.
+#[tactic(auto, using(crate::specs::FrameCases::too_short, crate::specs::FrameCases::too_long), unfolding(crate::specs::Digits::value_table, crate::specs::Digits::value_of))]
+pub fn decode(line: &[u8]) -> Option<Frame>
     ensures { result ≡ frame_of line.now }
 {
     if line.len() < SIZE_DIGITS {
-        return Frame::Unsound;
+        return None;
     }
     if line.len() > MOST_DIGITS {
-        return Frame::Unsound;
+        return None;
     }
     let table = VALUES;
     frame_in(&table, line)
 }
 
-// The entries of a query line's pattern, which are its digits from a place on, to the front of a list that has room for them.
-fn write_entries(table: &[u8; 256], line: &[u8], at: usize, entries: &mut [u8])
-    requires { (table.now ≡ value_table) × (at ≤ length line.now) × (length line.now ≤ at + length entries.old) }
-    ensures { entries.new ≡ laid (entries_from at line.now) entries.old }
+// The values of these bytes to the front of a list that has room for them.
+fn write_entries(table: &[u8; 256], digits: &[u8], entries: &mut [u8])
+    requires { (table.now ≡ value_table) × (length digits.now ≤ length entries.old) }
+    ensures { entries.new ≡ laid (map value_of digits.now) entries.old }
 {
-    let mut i = 0;
-    while i < line.len() - at {
-        entries[i] = value(table, line[at + i]);
-        i += 1;
+    // An index, since a proof does not learn what a walk over both lists at once wrote.
+    for (i, &byte) in digits.iter().enumerate() {
+        entries[i] = value(table, byte);
     }
 }
 
 // The pattern of a line whose frame is known, handed to the front of a lent list, and how many entries it has. They are the
 // line's last digits, whether it has a cap or not. Where the frame is no query, or the list is too short, the answer is 0 and the
-// list stays as it was.
-pub fn pattern_of(line: &[u8], frame: Frame, entries: &mut [u8]) -> usize
+// list stays as it was: a count and no option, as callers are promised.
+pub fn pattern_of(line: &[u8], frame: Option<Frame>, entries: &mut [u8]) -> usize
     requires { frame ≡ frame_of line.now }
     ensures { Placed (pattern_of line.now) entries.old entries.new result }
 {
-    let Frame::Query {
-        start: _,
-        end: _,
-        cap: _,
-        entries: count,
-    } = frame
-    else {
+    let Some(sound) = frame else {
         return 0;
     };
-    let n = count as usize;
+    let Frame::Query { entries: count, .. } = sound else {
+        return 0;
+    };
+    let n = usize::from(count);
     if entries.len() < n {
         return 0;
     }
     let table = VALUES;
-    write_entries(&table, line, line.len() - n, entries);
+    write_entries(&table, &line[line.len() - n..], entries);
     n
 }
 

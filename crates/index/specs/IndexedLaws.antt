@@ -1,12 +1,11 @@
 -- A query over an index that is what its arcs build, in lists that are long enough, is judged as without an index; and one that is
 -- accepted has such an index. Assumes nothing.
-use Rattle.std.specs.Prelude.{◌≡◌, refl, Bool, true, false, ◌||◌, List, [], ◌∷◌, ◌++◌}
+use Rattle.std.specs.Prelude.{◌≡◌, refl, Bool, true, false, ◌||◌, List, [], ◌∷◌, ◌++◌, Ok, Err}
 use Rattle.std.proofs.Common.{sym, ◌∙◌}
 use Rattle.std.proofs.lemmas.Bool.{not-false}
 use Rattle.network.specs.declared.Lent.{Lent}
 use Rattle.network.specs.declared.Cause.TheVariants.{BadArc, BadPotential, Inconsistent, Room, WrongIndex}
-use Rattle.network.specs.declared.Verdict.{Verdict}
-use Rattle.network.specs.declared.Verdict.TheVariants.{Accepted, Refused}
+use Rattle.network.specs.Verdict.{Verdict}
 use Rattle.network.specs.CaseSplit.{both_true, neither_true}
 use Rattle.network.specs.Network.{Side, start, end, Network, arc_count}
 use Rattle.network.specs.Query.{Query}
@@ -20,11 +19,11 @@ or_false true = refl
 or_false false = refl
 
 -- a row that accepts makes no difference
-passed_over : (rows more : List Verdict) → first_refusal (rows ++ (Accepted ∷ more)) ≡ first_refusal (rows ++ more)
+passed_over : (rows more : List Verdict) → first_refusal (rows ++ (Ok tt ∷ more)) ≡ first_refusal (rows ++ more)
 unfolding first_refusal
 passed_over [] more = refl
-passed_over (Accepted ∷ rows) more = passed_over rows more
-passed_over (Refused c ∷ rows) more = refl
+passed_over (Ok _ ∷ rows) more = passed_over rows more
+passed_over (Err c ∷ rows) more = refl
 
 -- an index that is not wrong is, each way, what the arcs build
 pub right_built : (g : Network) (ix : Index) → wrong_index g ix ≡ false → (s : Side) → is_built s g (way_of s ix) ≡ true
@@ -46,16 +45,16 @@ module _ (q : Query) (ix : Index) (l : Lent) where
       ∷ []))
 
   -- an accepted query has an index that is what its arcs build, and lists that are long enough
-  pub accepted_right : indexed_verdict q ix l ≡ Accepted → wrong_index q.network ix ≡ false
+  pub accepted_right : indexed_verdict q ix l ≡ Ok tt → wrong_index q.network ix ≡ false
   unfolding indexed_verdict indexed_rows
   accepted_right e = given_accepted (wrong_index q.network ix) WrongIndex (rows_accepted (indexed_rows q ix l) e 7)
 
-  pub accepted_long : indexed_verdict q ix l ≡ Accepted → short_index q.network ix ≡ false
+  pub accepted_long : indexed_verdict q ix l ≡ Ok tt → short_index q.network ix ≡ false
   unfolding indexed_verdict indexed_rows
   accepted_long e =
       neither_true (bad_room q.network.nodes l) (short_index q.network ix)
       (given_accepted (bad_room q.network.nodes l || short_index q.network ix) Room (rows_accepted (indexed_rows q ix l) e 5)) (λ a b. b)
 
   -- so it is accepted without it
-  pub accepted_plain : indexed_verdict q ix l ≡ Accepted → query_verdict q l ≡ Accepted
+  pub accepted_plain : indexed_verdict q ix l ≡ Ok tt → query_verdict q l ≡ Ok tt
   accepted_plain e = sym (indexed_same (accepted_long e) (accepted_right e)) ∙ e

@@ -1,13 +1,12 @@
 -- Laws of the tables of an index: how they compose of the parts that the code tests one after the other, and what arcs and an
 -- index that pass them can be relied on for. Assumes nothing.
-use Rattle.std.specs.Prelude.{◌≡◌, Bool, true, false, not, ◌||◌, ◌&&◌, List, [], ◌∷◌, ℕ, ◌<◌, ◌≤◌, ltb, leb, get_or}
+use Rattle.std.specs.Prelude.{◌≡◌, Bool, true, false, not, ◌||◌, ◌&&◌, List, [], ◌∷◌, ℕ, ◌<◌, ◌≤◌, ltb, leb, get_or, Ok, Err}
 use Rattle.std.proofs.Math.Path.{refl, sym, ap}
 use Rattle.std.proofs.Common.{ap₂, ◌∙◌, arith, get_or-set_same, ltb-false, leb-false, le-leb}
 use Rattle.std.proofs.Math.ListN.{length}
 use Rattle.network.specs.declared.Lent.{Lent}
 use Rattle.network.specs.declared.Cause.TheVariants.{NodeCount, ArcLists, PotentialLists, StartOrEnd, Pattern, Room, BadArc, BadPotential, Inconsistent, NoSuchArc, WrongIndex}
-use Rattle.network.specs.declared.Verdict.{Verdict}
-use Rattle.network.specs.declared.Verdict.TheVariants.{Accepted, Refused}
+use Rattle.network.specs.Verdict.{Verdict}
 use Rattle.network.specs.CaseSplit.{by_lt, neither_true}
 use Rattle.network.specs.Given.{ArcsSized}
 use Rattle.network.specs.Network.{Side, start, end, Network, most_weight, arc_count}
@@ -17,12 +16,14 @@ use Rattle.network.specs.RefusalLaws.{first_refusal_append, first_refusal_behind
 use Rattle.network.specs.SoundLaws.{arcs_sized, arcs_in}
 use Rattle.listing.specs.Listing.{Listable, ListRoom, is_listed}
 use Rattle.index.specs.Index.{Index, way_of, short_way, short_index, wrong_index}
-use Rattle.index.specs.Table.{build_rows, build_verdict, Change, changed, no_such_arc, bad_change, held_rows, held_verdict, change_rows, change_verdict, edit_rows, edit_verdict, indexed_rows, indexed_verdict}
+use Rattle.index.specs.declared.Change.{Change}
+use Rattle.index.specs.Table.{build_rows, build_verdict, changed, no_such_arc, bad_change, held_rows, held_verdict, change_rows, change_verdict, edit_rows, edit_verdict, indexed_rows, indexed_verdict}
 use Rattle.index.specs.WayLaws.{nears_of, wrong_listed}
 
 -- ---- the parts compose
 module _ (g : Network) (ix : Index) where
-  build_parts : build_verdict g ix ≡ arcs_verdict g (short_index g ix)
+  -- the arcs beside the lists of the index
+  pub build_parts : build_verdict g ix ≡ arcs_verdict g (short_index g ix)
   unfolding build_verdict build_rows arcs_rows arcs_verdict
   build_parts = refl
 
@@ -56,18 +57,18 @@ in_four : (v1 v2 v3 v4 v5 v6 more v7 v20 v8 v9 : Verdict)
     ∷ first_refusal (v1 ∷ v2 ∷ v3 ∷ v7 ∷ v8 ∷ v9 ∷ [])
     ∷ [])
 unfolding first_refusal
-in_four (Refused c) v2 v3 v4 v5 v6 more v7 v20 v8 v9 = refl
-in_four Accepted (Refused c) v3 v4 v5 v6 more v7 v20 v8 v9 = refl
-in_four Accepted Accepted (Refused c) v4 v5 v6 more v7 v20 v8 v9 = refl
-in_four Accepted Accepted Accepted (Refused c) v5 v6 more v7 v20 v8 v9 = refl
-in_four Accepted Accepted Accepted Accepted (Refused c) v6 more v7 v20 v8 v9 = refl
-in_four Accepted Accepted Accepted Accepted Accepted (Refused c) more v7 v20 v8 v9 = refl
-in_four Accepted Accepted Accepted Accepted Accepted Accepted (Refused c) v7 v20 v8 v9 = refl
-in_four Accepted Accepted Accepted Accepted Accepted Accepted Accepted (Refused c) v20 v8 v9 = refl
-in_four Accepted Accepted Accepted Accepted Accepted Accepted Accepted Accepted (Refused c) v8 v9 = refl
-in_four Accepted Accepted Accepted Accepted Accepted Accepted Accepted Accepted Accepted (Refused c) v9 = refl
-in_four Accepted Accepted Accepted Accepted Accepted Accepted Accepted Accepted Accepted Accepted (Refused c) = refl
-in_four Accepted Accepted Accepted Accepted Accepted Accepted Accepted Accepted Accepted Accepted Accepted = refl
+in_four (Err c) v2 v3 v4 v5 v6 more v7 v20 v8 v9 = refl
+in_four (Ok _) (Err c) v3 v4 v5 v6 more v7 v20 v8 v9 = refl
+in_four (Ok _) (Ok _) (Err c) v4 v5 v6 more v7 v20 v8 v9 = refl
+in_four (Ok _) (Ok _) (Ok _) (Err c) v5 v6 more v7 v20 v8 v9 = refl
+in_four (Ok _) (Ok _) (Ok _) (Ok _) (Err c) v6 more v7 v20 v8 v9 = refl
+in_four (Ok _) (Ok _) (Ok _) (Ok _) (Ok _) (Err c) more v7 v20 v8 v9 = refl
+in_four (Ok _) (Ok _) (Ok _) (Ok _) (Ok _) (Ok _) (Err c) v7 v20 v8 v9 = refl
+in_four (Ok _) (Ok _) (Ok _) (Ok _) (Ok _) (Ok _) (Ok _) (Err c) v20 v8 v9 = refl
+in_four (Ok _) (Ok _) (Ok _) (Ok _) (Ok _) (Ok _) (Ok _) (Ok _) (Err c) v8 v9 = refl
+in_four (Ok _) (Ok _) (Ok _) (Ok _) (Ok _) (Ok _) (Ok _) (Ok _) (Ok _) (Err c) v9 = refl
+in_four (Ok _) (Ok _) (Ok _) (Ok _) (Ok _) (Ok _) (Ok _) (Ok _) (Ok _) (Ok _) (Err c) = refl
+in_four (Ok _) (Ok _) (Ok _) (Ok _) (Ok _) (Ok _) (Ok _) (Ok _) (Ok _) (Ok _) (Ok _) = refl
 
 -- a row of two conditions is two rows of its cause
 either : (a b : Bool) (rows : List Verdict) → first_refusal (given (a || b) Room ∷ rows) ≡ first_refusal (given a Room ∷ given b Room ∷ rows)
@@ -102,8 +103,8 @@ indexed_parts q ix l =
     ∙ in_four v1 v2 v3 v4 v5 (given (bad_room g.nodes l) Room) (given (short_index g ix) Room) v7 v20 v8 v9
 
 -- ---- what a build's table gives, where it accepts
-module _ (g : Network) (ix : Index) (accepted : build_verdict g ix ≡ Accepted) where
-  rows : (i : ℕ) → get_or (sizes_verdict g ∷ given (short_index g ix) Room ∷ given_at BadArc (lowest (bad_arc g) (arc_count g)) ∷ []) i Accepted ≡ Accepted
+module _ (g : Network) (ix : Index) (accepted : build_verdict g ix ≡ Ok tt) where
+  rows : (i : ℕ) → get_or (sizes_verdict g ∷ given (short_index g ix) Room ∷ given_at BadArc (lowest (bad_arc g) (arc_count g)) ∷ []) i (Ok tt) ≡ Ok tt
   rows = rows_accepted _ (sym (build_parts g ix ∙ arcs_parts g (short_index g ix)) ∙ accepted)
 
   pub accepted_sized : ArcsSized g
@@ -144,11 +145,11 @@ module _ (g : Network) (ix : Index) (accepted : build_verdict g ix ≡ Accepted)
         ∙ sym (held_parts g ix ∙ first_refusal_accepted accepted (given (wrong_index g ix) WrongIndex ∷ []) ∙ first_refusal_one (given (wrong_index g ix) WrongIndex))
 
 -- ---- what is there passes: the arcs and their index
-module _ (g : Network) (ix : Index) (accepted : held_verdict g ix ≡ Accepted) where
-  held_rows_lem : (i : ℕ) → get_or (build_verdict g ix ∷ given (wrong_index g ix) WrongIndex ∷ []) i Accepted ≡ Accepted
+module _ (g : Network) (ix : Index) (accepted : held_verdict g ix ≡ Ok tt) where
+  held_rows_lem : (i : ℕ) → get_or (build_verdict g ix ∷ given (wrong_index g ix) WrongIndex ∷ []) i (Ok tt) ≡ Ok tt
   held_rows_lem = rows_accepted _ (sym (held_parts g ix) ∙ accepted)
 
-  pub build_accepted : build_verdict g ix ≡ Accepted
+  pub build_accepted : build_verdict g ix ≡ Ok tt
   build_accepted = held_rows_lem 0
 
   pub index_right : wrong_index g ix ≡ false

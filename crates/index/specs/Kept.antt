@@ -1,12 +1,12 @@
 -- What a build and an edit of an index keep to (docs/RULES.md, "The index"): what they leave in every list, refusals among them,
 -- when they refuse, and which entries a move leaves alone. Assumes nothing.
-use Rattle.std.specs.Prelude.{◌≡◌, ℕ, ◌<◌, ◌≤◌, get_or}
-use Rattle.network.specs.declared.Verdict.{Verdict}
-use Rattle.network.specs.declared.Verdict.TheVariants.{Accepted, Refused}
+use Rattle.std.specs.Prelude.{◌≡◌, ℕ, ◌<◌, ◌≤◌, get_or, Ok, Err}
+use Rattle.network.specs.Verdict.{Verdict}
 use Rattle.network.specs.Given.{Given, Refuses}
 use Rattle.network.specs.Network.{Side, Network, near}
 use Rattle.index.specs.Index.{Index, way_of, built_on, place_in}
-use Rattle.index.specs.Table.{build_verdict, BuildCondition, held_verdict, Change, changed, edit_verdict, EditCondition}
+use Rattle.index.specs.declared.Change.{Change}
+use Rattle.index.specs.Table.{build_verdict, BuildCondition, held_verdict, changed, edit_verdict, EditCondition}
 
 -- a verdict, and the arcs and the index as they are then
 pub record IndexLeft : Type 0 where
@@ -19,8 +19,8 @@ index_left r g ix = record { verdict = r; network = g; index = ix }
 
 -- a refusal leaves arcs and index as they are; otherwise they are the new ones
 abbrev pub verdict_keeps : Verdict → Network → Index → Network → Index → IndexLeft
-verdict_keeps (Refused c) g ix new newIndex = index_left (Refused c) g ix
-verdict_keeps Accepted g ix new newIndex = index_left Accepted new newIndex
+verdict_keeps (Err c) g ix new newIndex = index_left (Err c) g ix
+verdict_keeps (Ok _) g ix new newIndex = index_left (Ok tt) new newIndex
 
 -- a build leaves the index of its arcs
 unfoldable pub builds : Network → Index → IndexLeft
@@ -43,7 +43,7 @@ pub record BuildKept (g : Network) (before after : Index) (r : Verdict) : Type 0
   -- a refusal changes nothing
   pub untouched : (number place : ℕ) → Refuses r number place → after ≡ before
   -- what is built passes 1, 2, 6, 7 and 20, so that edits can follow without a test
-  pub held : r ≡ Accepted → held_verdict g after ≡ Accepted
+  pub held : r ≡ Ok tt → held_verdict g after ≡ Ok tt
 
 -- What an edit keeps to: the arcs and the index before and after it.
 pub record EditKept (c : Change) (g : Network) (ix : Index) (g' : Network) (ix' : Index) (r : Verdict) : Type 0 where
@@ -53,16 +53,16 @@ pub record EditKept (c : Change) (g : Network) (ix : Index) (g' : Network) (ix' 
   -- a refusal changes nothing, in the arcs and in the index
   pub untouched : (number place : ℕ) → Refuses r number place → index_left r g' ix' ≡ index_left r g ix
   -- what passed 1, 2, 6, 7 and 20 before it passes them afterwards, so that edit can follow edit without a test
-  pub held : held_verdict g ix ≡ Accepted → held_verdict g' ix' ≡ Accepted
+  pub held : held_verdict g ix ≡ Ok tt → held_verdict g' ix' ≡ Ok tt
   -- an arc that stays at its node has no entry of that way changed: so a change of weight alone changes no entry of the index
-  pub stays : r ≡ Accepted → (s : Side) → near s g' c.number ≡ near s g c.number → way_of s ix' ≡ way_of s ix
+  pub stays : r ≡ Ok tt → (s : Side) → near s g' c.number ≡ near s g c.number → way_of s ix' ≡ way_of s ix
   -- a move changes no entry before the arc's old place and its new one, and none behind both
-  pub before_both : r ≡ Accepted → (s : Side) (i : ℕ) → i < place_in s g c.number → i < place_in s g' c.number
+  pub before_both : r ≡ Ok tt → (s : Side) (i : ℕ) → i < place_in s g c.number → i < place_in s g' c.number
       → get_or (way_of s ix').arcs i 0 ≡ get_or (way_of s ix).arcs i 0
-  pub behind_both : r ≡ Accepted → (s : Side) (i : ℕ) → place_in s g c.number < i → place_in s g' c.number < i
+  pub behind_both : r ≡ Ok tt → (s : Side) (i : ℕ) → place_in s g c.number < i → place_in s g' c.number < i
       → get_or (way_of s ix').arcs i 0 ≡ get_or (way_of s ix).arcs i 0
   -- nor where the arcs begin of a node up to its old node and its new one, or behind both
-  pub begins_up_to : r ≡ Accepted → (s : Side) (u : ℕ) → u ≤ near s g c.number → u ≤ near s g' c.number
+  pub begins_up_to : r ≡ Ok tt → (s : Side) (u : ℕ) → u ≤ near s g c.number → u ≤ near s g' c.number
       → get_or (way_of s ix').begins u 0 ≡ get_or (way_of s ix).begins u 0
-  pub begins_behind : r ≡ Accepted → (s : Side) (u : ℕ) → near s g c.number < u → near s g' c.number < u
+  pub begins_behind : r ≡ Ok tt → (s : Side) (u : ℕ) → near s g c.number < u → near s g' c.number < u
       → get_or (way_of s ix').begins u 0 ≡ get_or (way_of s ix).begins u 0

@@ -1,14 +1,13 @@
 -- A build and an edit keep to what is promised of them: where they refuse, since nothing is written, and where they do not, since
 -- each way holds the listing of the arcs as they are then. Assumes nothing.
-use Rattle.std.specs.Prelude.{◌≡◌, ◌||◌, [], ◌∷◌, ◌↔◌, ℕ, ◌<◌, ltb, leb, length, get_or, set}
+use Rattle.std.specs.Prelude.{◌≡◌, ◌||◌, [], ◌∷◌, ◌↔◌, ℕ, ◌<◌, ltb, leb, length, get_or, set, Ok, Err}
 use Rattle.std.proofs.Math.Path.{refl, sym, ap, ap₂}
 use Rattle.std.proofs.Common.{◌∙◌, arith, leb-false}
 use Rattle.std.proofs.Math.ListN.{length-set}
 use Rattle.std.proofs.Math.Seq.{get_or-set_same}
 use Rattle.network.specs.declared.Cause.{Cause}
 use Rattle.network.specs.declared.Cause.TheVariants.{BadArc, NoSuchArc}
-use Rattle.network.specs.declared.Verdict.{Verdict}
-use Rattle.network.specs.declared.Verdict.TheVariants.{Accepted, Refused}
+use Rattle.network.specs.Verdict.{Verdict}
 use Rattle.network.specs.CaseSplit.{neither_true}
 use Rattle.network.specs.Given.{ArcsSized, Given, Refuses}
 use Rattle.network.specs.GivenLaws.{accepted_refuses}
@@ -24,7 +23,8 @@ use Rattle.index.specs.IndexedLaws.{right_built}
 use Rattle.index.specs.HeldLaws.{held_built, held_changed}
 use Rattle.index.specs.JudgedLaws.{edit_parts, accepted_sized, listable, build_accepted, index_right, change_judged}
 use Rattle.index.specs.Kept.{builds, edits, RefusedAsGiven, BuildKept, EditKept}
-use Rattle.index.specs.Table.{build_verdict, Change, changed, held_verdict, change_verdict, edit_verdict}
+use Rattle.index.specs.declared.Change.{Change}
+use Rattle.index.specs.Table.{build_verdict, changed, held_verdict, change_verdict, edit_verdict, change_asked}
 use Rattle.index.specs.TableLaws.{build_given, edit_given}
 use Rattle.index.specs.WayLaws.{nears_of, place_is, built_listed, listed_built}
 
@@ -35,12 +35,12 @@ as_given {r = r} e exactly = record {
 }
 
 -- what is said of a verdict that accepts holds of a refusal
-not_accepted : {A : Type 0} {r : Verdict} {d : Cause} → r ≡ Refused d → r ≡ Accepted → A
+not_accepted : {A : Type 0} {r : Verdict} {d : Cause} → r ≡ Err d → r ≡ Ok tt → A
 not_accepted e z = absurd (refused≢accepted (sym e ∙ z))
 
 -- ---- a build
 module _ (g : Network) (ix : Index) where
-  pub build_refused : {r : Verdict} {d : Cause} → r ≡ build_verdict g ix → r ≡ Refused d → BuildKept g ix ix r
+  pub build_refused : {r : Verdict} {d : Cause} → r ≡ build_verdict g ix → r ≡ Err d → BuildKept g ix ix r
   unfolding builds
   build_refused judged e = record {
     leaves = rw (sym judged, e) refl;
@@ -50,7 +50,7 @@ module _ (g : Network) (ix : Index) where
   }
 
   -- each way holds the listing of its near nodes
-  module _ (accepted : build_verdict g ix ≡ Accepted) (after : Index)
+  module _ (accepted : build_verdict g ix ≡ Ok tt) (after : Index)
       (out : Listed g.tails g.nodes ix.out.arcs ix.out.begins after.out.arcs after.out.begins)
       (into : Listed g.heads g.nodes ix.into.arcs ix.into.begins after.into.arcs after.into.begins) where
     built_index : after ≡ built_on g ix
@@ -59,7 +59,7 @@ module _ (g : Network) (ix : Index) where
         let arcs_fit = accepted_sized g ix accepted in
         ap₂ (λ x y. record { out = x; into = y }) (listed_built g arcs_fit start ix.out after.out out) (listed_built g arcs_fit end ix.into after.into into)
 
-    pub build_kept : BuildKept g ix after Accepted
+    pub build_kept : BuildKept g ix after (Ok tt)
     unfolding builds
     build_kept = record {
       leaves = rw (accepted, built_index) refl;
@@ -76,10 +76,10 @@ new_near end c = c.head
 
 module _ (g : Network) (ix : Index) (c : Change) where
   -- an edit whose arcs and index are refused already is refused so
-  pub held_decides : {r : Verdict} {d : Cause} → r ≡ held_verdict g ix → r ≡ Refused d → r ≡ edit_verdict g ix c
+  pub held_decides : {r : Verdict} {d : Cause} → r ≡ held_verdict g ix → r ≡ Err d → r ≡ edit_verdict g ix c
   held_decides e told = row_decides e told (change_verdict g c ∷ []) ∙ sym (edit_parts g ix c)
 
-  pub edit_refused : {r : Verdict} {d : Cause} → r ≡ edit_verdict g ix c → r ≡ Refused d → EditKept c g ix g ix r
+  pub edit_refused : {r : Verdict} {d : Cause} → r ≡ edit_verdict g ix c → r ≡ Err d → EditKept c g ix g ix r
   unfolding edits
   edit_refused judged e = record {
     leaves = rw (sym judged, e) refl;
@@ -94,7 +94,7 @@ module _ (g : Network) (ix : Index) (c : Change) where
   }
 
   -- what is there passes
-  module _ (held : held_verdict g ix ≡ Accepted) where
+  module _ (held : held_verdict g ix ≡ Ok tt) where
     arcs_fit : ArcsSized g
     arcs_fit = accepted_sized g ix (build_accepted g ix held)
 
@@ -117,15 +117,13 @@ module _ (g : Network) (ix : Index) (c : Change) where
         edit_parts g ix c ∙ first_refusal_accepted held (change_verdict g c ∷ []) ∙ first_refusal_one (change_verdict g c) ∙ change_judged g arcs_fit c
 
     pub change_decides : {r : Verdict}
-        → r ≡ first_refusal
-        (given (leb (arc_count g) c.number) (NoSuchArc c.number)
-        ∷ given (leb g.nodes c.tail || leb g.nodes c.head || ltb most_weight c.weight) (BadArc c.number)
-        ∷ [])
+        → r ≡ change_asked g.nodes (arc_count g) c
         → r ≡ edit_verdict g ix c
+    unfolding change_asked
     change_decides e = e ∙ sym edit_judged
 
-    module _ (edit_accepted : edit_verdict g ix c ≡ Accepted) where
-      rows : (i : ℕ) → get_or (given (leb (arc_count g) c.number) (NoSuchArc c.number) ∷ given (leb g.nodes c.tail || leb g.nodes c.head || ltb most_weight c.weight) (BadArc c.number) ∷ []) i Accepted ≡ Accepted
+    module _ (edit_accepted : edit_verdict g ix c ≡ Ok tt) where
+      rows : (i : ℕ) → get_or (given (leb (arc_count g) c.number) (NoSuchArc c.number) ∷ given (leb g.nodes c.tail || leb g.nodes c.head || ltb most_weight c.weight) (BadArc c.number) ∷ []) i (Ok tt) ≡ Ok tt
       rows = rows_accepted _ (sym (edit_judged) ∙ edit_accepted)
 
       -- there is such an arc, and its new ends are nodes
@@ -201,7 +199,7 @@ module _ (g : Network) (ix : Index) (c : Change) where
         between : (s : Side) → OnlyBetween (nears_of s g) c.number (new_near s c) (way_of s ix).arcs (way_of s ix).begins (way_of s ix').arcs (way_of s ix').begins
         between s = only_between (held_listable s) c.number (new_near s c) (number_near s) (new_in s) (held_listed s) (new s)
 
-        pub edit_kept : {r : Verdict} → r ≡ Accepted → EditKept c g ix (changed g c) ix' r
+        pub edit_kept : {r : Verdict} → r ≡ Ok tt → EditKept c g ix (changed g c) ix' r
         unfolding edits
         edit_kept e = record {
           leaves = rw (e, edit_accepted, new_index) refl;

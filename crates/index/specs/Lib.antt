@@ -14,4 +14,5 @@ pub mod JudgedLaws
 pub mod HeldLaws
 pub mod KeptLaws
 -- Why each contract admits a single answer.
+pub mod Lists
 pub mod OneAnswer

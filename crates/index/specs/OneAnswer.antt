@@ -1,14 +1,18 @@
 -- Each public function's contract admits a single answer: whatever two runs on the same input return and leave in the lent
 -- lists, they are the same. Assumes nothing.
-use Rattle.std.specs.Prelude.{◌≡◌}
-use Rattle.std.proofs.Common.{sym, ap, ◌∙◌}
+use Rattle.std.specs.Prelude.{◌≡◌, ℕ, List}
+use Rattle.std.specs.Borrow.{MutBor}
+use Rattle.std.proofs.Common.{Bor, sym, ap, ◌∙◌}
+use Rattle.index.specs.declared.IndexLists.{IndexLists}
+use Rattle.index.specs.Lists.{index_of, index_in}
 use Rattle.network.specs.declared.Lent.{Lent}
-use Rattle.network.specs.declared.Verdict.{Verdict}
+use Rattle.network.specs.Verdict.{Verdict}
 use Rattle.network.specs.Network.{Network}
 use Rattle.network.specs.Query.{Query}
 use Rattle.index.specs.Index.{Index}
 use Rattle.index.specs.Kept.{IndexLeft, index_left, BuildKept, EditKept}
-use Rattle.index.specs.Table.{Change, indexed_verdict}
+use Rattle.index.specs.declared.Change.{Change}
+use Rattle.index.specs.Table.{indexed_verdict}
 
 pub build_one_answer : (g : Network) (before after after' : Index) (r s : Verdict)
     → BuildKept g before after r
@@ -32,3 +36,10 @@ pub check_query_one_answer : (q : Query) (ix : Index) (lent : Lent) (r s : Verdi
     → s ≡ indexed_verdict q ix lent
     → r ≡ s
 check_query_one_answer q ix lent r s e f = e ∙ sym f
+
+-- `IndexLists::shown`
+pub shown_one_answer : (ix : IndexLists (MutBor (List ℕ))) (r s : IndexLists (Bor (List ℕ)))
+    → index_of r ≡ index_in ix
+    → index_of s ≡ index_in ix
+    → index_of r ≡ index_of s
+shown_one_answer ix r s e f = e ∙ sym f

@@ -1,12 +1,13 @@
 -- The refusal tables of an index (docs/RULES.md, "Refusal numbers" and "The index"): of a build, of an edit, and of a query over an
 -- index. Each is given twice: as rows of which the first that refuses is the verdict, and as conditions, for "given exactly when".
 -- Assumes nothing.
-use Rattle.std.specs.Prelude.{◌≡◌, Bool, true, ◌||◌, List, [], ◌∷◌, ◌++◌, ℕ, leb, set}
+use Rattle.std.specs.Prelude.{◌≡◌, Bool, true, ◌||◌, List, [], ◌∷◌, ◌++◌, ℕ, leb, ltb, set}
 use Rattle.network.specs.declared.Lent.{Lent}
 use Rattle.network.specs.declared.Cause.TheVariants.{NodeCount, ArcLists, PotentialLists, StartOrEnd, Pattern, Room, BadArc, BadPotential, Inconsistent, NoSuchArc, WrongIndex}
-use Rattle.network.specs.declared.Verdict.{Verdict}
+use Rattle.index.specs.declared.Change.{Change}
+use Rattle.network.specs.Verdict.{Verdict}
 use Rattle.network.specs.Given.{Lowest}
-use Rattle.network.specs.Network.{Network, network, arc_count}
+use Rattle.network.specs.Network.{Network, network, arc_count, most_weight}
 use Rattle.network.specs.Query.{Query}
 use Rattle.network.specs.Refusal.{lowest, bad_node_count, bad_arc_lists, bad_potential_lists, bad_start_or_end, bad_pattern, bad_room, bad_arc, bad_potential, breaks_rule, given, given_at, first_refusal, arcs_rows}
 use Rattle.index.specs.Index.{Index, short_index, wrong_index}
@@ -27,12 +28,6 @@ pub data BuildCondition (g : Network) (ix : Index) : ℕ → ℕ → ℕ → Typ
 
 -- ---- an edit: the same on what is there, then 20, 19, and 7 for the new values
 -- an edit names an arc by its number, and has its new tail, head and weight
-pub record Change : Type 0 where
-  pub number : ℕ
-  pub tail : ℕ
-  pub head : ℕ
-  pub weight : ℕ
-
 abbrev pub change : ℕ → ℕ → ℕ → ℕ → Change
 change a t h w = record { number = a; tail = t; head = h; weight = w }
 
@@ -47,6 +42,14 @@ no_such_arc g a = leb (arc_count g) a
 -- 7, of an edit: the arc would be bad
 unfoldable pub bad_change : Network → Change → Bool
 bad_change g c = bad_arc (changed g c) c.number
+
+-- 19 and 7 by how many nodes and arcs there are
+unfoldable pub change_asked : ℕ → ℕ → Change → Verdict
+change_asked nodes arcs c =
+    first_refusal
+    (given (leb arcs c.number) (NoSuchArc c.number)
+    ∷ given (leb nodes c.tail || leb nodes c.head || ltb most_weight c.weight) (BadArc c.number)
+    ∷ [])
 
 -- what is there: 1, 2, 6, 7 and 20
 unfoldable pub held_rows : Network → Index → List Verdict

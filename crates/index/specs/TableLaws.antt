@@ -1,15 +1,15 @@
 -- "Given exactly when" of the tables of an index. Assumes nothing.
-use Rattle.std.specs.Prelude.{◌≡◌, ◌↔◌, ℕ, get_or}
+use Rattle.std.specs.Prelude.{◌≡◌, ◌↔◌, ℕ, get_or, Ok}
 use Rattle.network.specs.declared.Lent.{Lent}
 use Rattle.network.specs.declared.Cause.TheVariants.{NodeCount, ArcLists, PotentialLists, StartOrEnd, Pattern, Room, BadArc, BadPotential, Inconsistent, NoSuchArc, WrongIndex}
-use Rattle.network.specs.declared.Verdict.TheVariants.{Accepted}
 use Rattle.network.specs.Given.{Given, Refuses}
 use Rattle.network.specs.GivenLaws.{Rows, none, row, said_if, said_at, refuses_if, refuses_at, given_exactly_when, accepted_exactly_when}
 use Rattle.network.specs.Network.{Network}
 use Rattle.network.specs.Query.{Query}
 use Rattle.network.specs.Refusal.{arcs_rows}
 use Rattle.index.specs.Index.{Index}
-use Rattle.index.specs.Table.{build_rows, build_verdict, BuildCondition, Change, held_rows, change_rows, edit_rows, edit_verdict, EditCondition, on_what_is_there, indexed_rows, indexed_verdict, QueryCondition}
+use Rattle.index.specs.declared.Change.{Change}
+use Rattle.index.specs.Table.{build_rows, build_verdict, BuildCondition, held_rows, change_rows, edit_rows, edit_verdict, EditCondition, on_what_is_there, indexed_rows, indexed_verdict, QueryCondition}
 
 -- ---- a build
 module _ (g : Network) (ix : Index) where
@@ -21,7 +21,7 @@ module _ (g : Network) (ix : Index) where
       (row (said_if (BuildCondition g ix) _ Room BuildCondition.of_room)
       (row (said_at (BuildCondition g ix) BadArc _ _ (λ a h. BuildCondition.of_arc h)) none)))
 
-  build_refuses : (r n p : ℕ) → BuildCondition g ix r n p → Refuses (get_or (build_rows g ix) r Accepted) n p
+  build_refuses : (r n p : ℕ) → BuildCondition g ix r n p → Refuses (get_or (build_rows g ix) r (Ok tt)) n p
   unfolding build_rows arcs_rows
   build_refuses r n p (BuildCondition.of_node_count h) = refuses_if NodeCount h
   build_refuses r n p (BuildCondition.of_arc_lists h) = refuses_if ArcLists h
@@ -46,7 +46,7 @@ module _ (g : Network) (ix : Index) (c : Change) where
       (row (said_if (EditCondition g ix c) _ (NoSuchArc c.number) EditCondition.of_number)
       (row (said_if (EditCondition g ix c) _ (BadArc c.number) EditCondition.of_change) none))))))
 
-  edit_refuses : (r n p : ℕ) → EditCondition g ix c r n p → Refuses (get_or (edit_rows g ix c) r Accepted) n p
+  edit_refuses : (r n p : ℕ) → EditCondition g ix c r n p → Refuses (get_or (edit_rows g ix c) r (Ok tt)) n p
   unfolding build_rows arcs_rows held_rows change_rows edit_rows
   edit_refuses r n p (on_what_is_there (BuildCondition.of_node_count h)) = refuses_if NodeCount h
   edit_refuses r n p (on_what_is_there (BuildCondition.of_arc_lists h)) = refuses_if ArcLists h
@@ -77,7 +77,7 @@ module _ (q : Query) (ix : Index) (l : Lent) where
       (row (said_at (QueryCondition q ix l) BadPotential _ _ (λ v h. QueryCondition.of_potential h))
       (row (said_at (QueryCondition q ix l) Inconsistent _ _ (λ a h. QueryCondition.of_rule h)) none)))))))))
 
-  query_refuses : (r n p : ℕ) → QueryCondition q ix l r n p → Refuses (get_or (indexed_rows q ix l) r Accepted) n p
+  query_refuses : (r n p : ℕ) → QueryCondition q ix l r n p → Refuses (get_or (indexed_rows q ix l) r (Ok tt)) n p
   unfolding indexed_rows
   query_refuses r n p (QueryCondition.of_node_count h) = refuses_if NodeCount h
   query_refuses r n p (QueryCondition.of_arc_lists h) = refuses_if ArcLists h
@@ -96,6 +96,6 @@ module _ (q : Query) (ix : Index) (l : Lent) where
   unfolding indexed_verdict
   query_given = given_exactly_when (QueryCondition q ix l) (indexed_rows q ix l) query_rows query_refuses
 
-  pub query_accepted : (indexed_verdict q ix l ≡ Accepted) ↔ ((r n p : ℕ) → QueryCondition q ix l r n p → ⊥)
+  pub query_accepted : (indexed_verdict q ix l ≡ Ok tt) ↔ ((r n p : ℕ) → QueryCondition q ix l r n p → ⊥)
   unfolding indexed_verdict
   query_accepted = accepted_exactly_when (QueryCondition q ix l) (indexed_rows q ix l) query_rows query_refuses

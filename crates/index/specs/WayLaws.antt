@@ -2,9 +2,8 @@
 -- the end side: of the arcs, of where a node's begin, and of an arc's place. Assumes nothing.
 use Rattle.std.specs.Prelude.{◌≡◌, ◌&&◌, List, [], ◌∷◌, ◌++◌}
 use Rattle.std.proofs.Math.Path.{refl, ap, ap₂}
-use Rattle.std.proofs.Common.{sym, ◌∙◌, arith, lt-ltb}
+use Rattle.std.proofs.Common.{sym, ◌∙◌, arith, lt-ltb, ℕ, zero, suc, ◌+◌, ◌≤◌}
 use Rattle.std.proofs.Math.Bool.{not, cond}
-use Prim.Native.Nat.{ℕ, zero, suc, ◌+◌, ◌≤◌}
 use Rattle.std.proofs.Math.Dec.{eqb}
 use Rattle.std.proofs.Math.ListN.{length}
 use Rattle.network.specs.Given.{ArcsSized}

@@ -2,242 +2,198 @@
 // an arc is edited, and tested with a query by the whole refusal table. A refusal comes before anything is written.
 #![tactic(auto)]
 
-ghost use Rattle.std.specs.Prelude.{◌≡◌, ◌||◌, ltb, leb, [], ◌∷◌};
-ghost use Rattle.network.specs.Network.{most_weight, network};
-ghost use Rattle.network.specs.Query.{query};
-ghost use Rattle.network.specs.Refusal.{first_refusal, given};
-ghost use Rattle.index.specs.Index.{index};
+ghost use Rattle.std.specs.Prelude.{◌≡◌, Ok};
+ghost use Rattle.network.specs.Lists.{network_of, query_asked};
+ghost use Rattle.index.specs.Index.{short_index};
 ghost use Rattle.index.specs.Kept.{BuildKept, EditKept};
-ghost use Rattle.index.specs.Table.{change, held_verdict, indexed_verdict};
+ghost use Rattle.index.specs.Lists.{index_of, index_in, network_in, SameArcs, SameIndex};
+ghost use Rattle.index.specs.Table.{build_verdict, change_asked, held_verdict, indexed_verdict};
 
-use network::{Cause, Lent, Verdict};
+use network::{Cause, Lent, NetworkLists, QueryLists};
+
+// The four lists of an index, lent to be looked at or lent to be written.
+#[derive(Clone, Copy, Drop)]
+pub struct IndexLists<L> {
+    pub out_arcs: L,
+    pub out_begins: L,
+    pub in_arcs: L,
+    pub in_begins: L,
+}
+
+// The lists of arcs that may be edited: for each arc its tail, its head and its weight.
+#[derive(Drop)]
+pub struct Arcs<'a> {
+    pub tails: &'a mut [u16],
+    pub heads: &'a mut [u16],
+    pub weights: &'a mut [u32],
+}
+
+impl Arcs<'_> {
+    // The network of so many nodes with these arcs, to be looked at.
+    fn network(&self, nodes: u16) -> NetworkLists<'_>
+        ensures nodes { result.nodes ≡ nodes }
+        ensures tails { result.tails.now ≡ self.now.tails.now }
+        ensures heads { result.heads.now ≡ self.now.heads.now }
+        ensures weights { result.weights.now ≡ self.now.weights.now }
+    {
+        NetworkLists {
+            nodes,
+            tails: self.tails,
+            heads: self.heads,
+            weights: self.weights,
+        }
+    }
+}
+
+impl IndexLists<&mut [u16]> {
+    // The same lists, to be looked at.
+    pub fn shown(&self) -> IndexLists<&[u16]>
+        ensures { index_of result ≡ index_in self.now }
+    {
+        IndexLists {
+            out_arcs: self.out_arcs,
+            out_begins: self.out_begins,
+            in_arcs: self.in_arcs,
+            in_begins: self.in_begins,
+        }
+    }
+}
+
+// An edit: the arc of this number gets this tail, head and weight.
+#[derive(Clone, Copy)]
+pub struct Change {
+    pub number: u16,
+    pub tail: u16,
+    pub head: u16,
+    pub weight: u32,
+}
 
 // Test 6, of an index: each list of arcs has room for an entry an arc, each list of begins for an entry a node and one more.
-fn is_short(
-    nodes: u16,
-    arcs: usize,
-    out_arcs: usize,
-    out_begins: usize,
-    in_arcs: usize,
-    in_begins: usize,
-) -> bool
-    ensures { result ≡ ((ltb out_arcs arcs || leb out_begins nodes) || (ltb in_arcs arcs || leb in_begins nodes)) }
+#[tactic(auto, unfolding(crate::specs::Index::short_index, crate::specs::Index::short_way))]
+fn is_short(network: NetworkLists, held: IndexLists<&[u16]>) -> bool
+    ensures { result ≡ short_index (network_of network.entry) (index_of held.entry) }
 {
-    let n = nodes as usize;
-    if out_arcs < arcs {
-        return true;
-    }
-    if out_begins <= n {
-        return true;
-    }
-    if in_arcs < arcs {
-        return true;
-    }
-    if in_begins <= n {
-        return true;
-    }
-    false
+    let nodes = network.nodes as usize;
+    let arcs = network.tails.len();
+    held.out_arcs.len() < arcs
+        || held.out_begins.len() <= nodes
+        || held.in_arcs.len() < arcs
+        || held.in_begins.len() <= nodes
+}
+
+// Tests 1, 2, 6 and 7: the arcs, and the room of an index.
+#[tactic(auto, using(crate::specs::JudgedLaws::build_parts))]
+fn check_listable(network: NetworkLists, held: IndexLists<&[u16]>) -> Result<(), Cause>
+    ensures { result ≡ build_verdict (network_of network.entry) (index_of held.entry) }
+{
+    network::check_arcs(network, is_short(network, held))
 }
 
 // Tests 1, 2, 6, 7 and 20: the arcs, and an index that is what they build.
-fn check_held(
-    nodes: u16,
-    tails: &[u16],
-    heads: &[u16],
-    weights: &[u32],
-    out_arcs: &[u16],
-    out_begins: &[u16],
-    in_arcs: &[u16],
-    in_begins: &[u16],
-) -> Verdict
-    ensures { result ≡ held_verdict
-        (network nodes tails.now heads.now weights.now)
-        (index out_arcs.now out_begins.now in_arcs.now in_begins.now) }
+fn check_held(network: NetworkLists, held: IndexLists<&[u16]>) -> Result<(), Cause>
+    ensures { result ≡ held_verdict (network_of network.entry) (index_of held.entry) }
 {
-    let short = is_short(
-        nodes,
-        tails.len(),
-        out_arcs.len(),
-        out_begins.len(),
-        in_arcs.len(),
-        in_begins.len(),
-    );
-    let of_arcs = network::check_arcs(nodes, tails, heads, weights, short);
-    let Verdict::Accepted = of_arcs else {
-        return of_arcs;
-    };
-    if !listing::is_listed(tails, nodes, out_arcs, out_begins) {
-        return Verdict::Refused(Cause::WrongIndex);
+    check_listable(network, held)?;
+    let nodes = network.nodes;
+    if !listing::is_listed(network.tails, nodes, held.out_arcs, held.out_begins) {
+        return Err(Cause::WrongIndex);
     }
-    if !listing::is_listed(heads, nodes, in_arcs, in_begins) {
-        return Verdict::Refused(Cause::WrongIndex);
+    if !listing::is_listed(network.heads, nodes, held.in_arcs, held.in_begins) {
+        return Err(Cause::WrongIndex);
     }
-    Verdict::Accepted
+    Ok(())
 }
 
 // The whole table for a query over an index: accepted, or the first number that holds, with its place. What a test before has
 // passed passes again, so the first refusal here is the table's.
-pub fn check_query(
-    nodes: u16,
-    tails: &[u16],
-    heads: &[u16],
-    weights: &[u32],
-    out_arcs: &[u16],
-    out_begins: &[u16],
-    in_arcs: &[u16],
-    in_begins: &[u16],
-    forward: &[i32],
-    backward: &[i32],
-    start: u16,
-    end: u16,
-    pattern: &[u8],
-    lent: Lent,
-) -> Verdict
-    ensures { result ≡ indexed_verdict
-        (query (network nodes tails.now heads.now weights.now) forward.now backward.now start end pattern.now)
-        (index out_arcs.now out_begins.now in_arcs.now in_begins.now)
-        lent }
+#[tactic(auto, using(crate::specs::JudgedLaws::indexed_parts), unfolding(network::specs::Refusal::first_refusal))]
+pub fn check_query(query: QueryLists, held: IndexLists<&[u16]>, lent: Lent) -> Result<(), Cause>
+    ensures { result ≡ indexed_verdict (query_asked query.entry) (index_of held.entry) lent }
 {
-    let of_lists = network::check_lists(nodes, tails, heads, weights, forward, backward);
-    let Verdict::Accepted = of_lists else {
-        return of_lists;
-    };
-    let of_trip = network::check_trip(nodes, start, end, pattern, lent);
-    let Verdict::Accepted = of_trip else {
-        return of_trip;
-    };
-    let of_index = check_held(
-        nodes, tails, heads, weights, out_arcs, out_begins, in_arcs, in_begins,
-    );
-    let Verdict::Accepted = of_index else {
-        return of_index;
-    };
-    network::check_network(nodes, tails, heads, weights, forward, backward)
+    let network = query.network;
+    network::check_lists(network, query.potentials)?;
+    network::check_trip(network.nodes, query.start, query.end, query.pattern, lent)?;
+    check_held(network, held)?;
+    network::check_network(network, query.potentials)
 }
 
 // The index of the arcs, from the first entries of its lists on. In time proportional to nodes plus arcs.
-pub fn build(
-    nodes: u16,
-    tails: &[u16],
-    heads: &[u16],
-    weights: &[u32],
-    out_arcs: &mut [u16],
-    out_begins: &mut [u16],
-    in_arcs: &mut [u16],
-    in_begins: &mut [u16],
-) -> Verdict
-    ensures { BuildKept
-        (network nodes tails.now heads.now weights.now)
-        (index out_arcs.old out_begins.old in_arcs.old in_begins.old)
-        (index out_arcs.new out_begins.new in_arcs.new in_begins.new)
-        result }
+pub fn build(network: NetworkLists, built: &mut IndexLists<&mut [u16]>) -> Result<(), Cause>
+    ensures kept { BuildKept (network_of network.entry) (index_in built.old) (index_in built.new) result }
+    ensures same { SameIndex built.old built.new }
 {
-    let short = is_short(
-        nodes,
-        tails.len(),
-        out_arcs.len(),
-        out_begins.len(),
-        in_arcs.len(),
-        in_begins.len(),
-    );
-    let verdict = network::check_arcs(nodes, tails, heads, weights, short);
-    let Verdict::Accepted = verdict else {
-        return verdict;
-    };
-    listing::list_arcs(tails, nodes, out_arcs, out_begins);
-    listing::list_arcs(heads, nodes, in_arcs, in_begins);
-    Verdict::Accepted
+    check_listable(network, built.shown())?;
+    let nodes = network.nodes;
+    listing::list_arcs(network.tails, nodes, built.out_arcs, built.out_begins);
+    listing::list_arcs(network.heads, nodes, built.in_arcs, built.in_begins);
+    Ok(())
 }
 
 // Tests 19 and 7 of an edit: there is such an arc, and its new ends are nodes and its new weight is not too large.
-fn check_change(nodes: u16, arcs: usize, number: u16, tail: u16, head: u16, weight: u32) -> Verdict
-    ensures { result ≡ first_refusal
-        (given (leb arcs number) (Cause.NoSuchArc number)
-        ∷ given (leb nodes tail || leb nodes head || ltb most_weight weight) (Cause.BadArc number)
-        ∷ []) }
+#[tactic(auto, unfolding(crate::specs::Table::change_asked, network::specs::Refusal::first_refusal))]
+fn check_change(nodes: u16, arcs: usize, change: Change) -> Result<(), Cause>
+    ensures { result ≡ change_asked nodes arcs change }
 {
+    let number = change.number;
     if arcs <= number as usize {
-        return Verdict::Refused(Cause::NoSuchArc(number));
+        return Err(Cause::NoSuchArc(number));
     }
-    if nodes <= tail {
-        return Verdict::Refused(Cause::BadArc(number));
+    if nodes <= change.tail || nodes <= change.head || network::MOST_WEIGHT < change.weight {
+        return Err(Cause::BadArc(number));
     }
-    if nodes <= head {
-        return Verdict::Refused(Cause::BadArc(number));
-    }
-    if network::MOST_WEIGHT < weight {
-        return Verdict::Refused(Cause::BadArc(number));
-    }
-    Verdict::Accepted
+    Ok(())
 }
 
 // One arc edited, for a caller that knows that its index is right: many edits need not pay for the test each time. What it asks is
 // exactly that what is there passes the table.
 pub fn edit_known(
     nodes: u16,
-    tails: &mut [u16],
-    heads: &mut [u16],
-    weights: &mut [u32],
-    out_arcs: &mut [u16],
-    out_begins: &mut [u16],
-    in_arcs: &mut [u16],
-    in_begins: &mut [u16],
-    number: u16,
-    tail: u16,
-    head: u16,
-    weight: u32,
-) -> Verdict
-    requires { held_verdict (network nodes tails.old heads.old weights.old) (index out_arcs.old out_begins.old in_arcs.old in_begins.old) ≡ Verdict.Accepted }
-    ensures { EditKept (change number tail head weight)
-        (network nodes tails.old heads.old weights.old)
-        (index out_arcs.old out_begins.old in_arcs.old in_begins.old)
-        (network nodes tails.new heads.new weights.new)
-        (index out_arcs.new out_begins.new in_arcs.new in_begins.new)
-        result }
+    arcs: &mut Arcs,
+    held: &mut IndexLists<&mut [u16]>,
+    change: Change,
+) -> Result<(), Cause>
+    requires { held_verdict (network_in nodes arcs.old) (index_in held.old) ≡ Ok tt }
+    ensures kept { EditKept change (network_in nodes arcs.old) (index_in held.old) (network_in nodes arcs.new) (index_in held.new) result }
+    ensures same_arcs { SameArcs arcs.old arcs.new }
+    ensures same_index { SameIndex held.old held.new }
 {
-    let of_change = check_change(nodes, tails.len(), number, tail, head, weight);
-    let Verdict::Accepted = of_change else {
-        return of_change;
-    };
-    relist::relist(tails, nodes, out_arcs, out_begins, number, tail);
-    relist::relist(heads, nodes, in_arcs, in_begins, number, head);
+    check_change(nodes, arcs.tails.len(), change)?;
+    let number = change.number;
+    let known = arcs.network(nodes);
+    relist::relist(
+        known.tails,
+        nodes,
+        held.out_arcs,
+        held.out_begins,
+        number,
+        change.tail,
+    );
+    relist::relist(
+        known.heads,
+        nodes,
+        held.in_arcs,
+        held.in_begins,
+        number,
+        change.head,
+    );
     let a = number as usize;
-    tails[a] = tail;
-    heads[a] = head;
-    weights[a] = weight;
-    of_change
+    arcs.tails[a] = change.tail;
+    arcs.heads[a] = change.head;
+    arcs.weights[a] = change.weight;
+    Ok(())
 }
 
 // One arc edited: its tail, head and weight become the new ones, and the index becomes what the arcs build then.
 pub fn edit(
     nodes: u16,
-    tails: &mut [u16],
-    heads: &mut [u16],
-    weights: &mut [u32],
-    out_arcs: &mut [u16],
-    out_begins: &mut [u16],
-    in_arcs: &mut [u16],
-    in_begins: &mut [u16],
-    number: u16,
-    tail: u16,
-    head: u16,
-    weight: u32,
-) -> Verdict
-    ensures { EditKept (change number tail head weight)
-        (network nodes tails.old heads.old weights.old)
-        (index out_arcs.old out_begins.old in_arcs.old in_begins.old)
-        (network nodes tails.new heads.new weights.new)
-        (index out_arcs.new out_begins.new in_arcs.new in_begins.new)
-        result }
+    arcs: &mut Arcs,
+    held: &mut IndexLists<&mut [u16]>,
+    change: Change,
+) -> Result<(), Cause>
+    ensures kept { EditKept change (network_in nodes arcs.old) (index_in held.old) (network_in nodes arcs.new) (index_in held.new) result }
+    ensures same_arcs { SameArcs arcs.old arcs.new }
+    ensures same_index { SameIndex held.old held.new }
 {
-    let of_index = check_held(
-        nodes, tails, heads, weights, out_arcs, out_begins, in_arcs, in_begins,
-    );
-    let Verdict::Accepted = of_index else {
-        return of_index;
-    };
-    edit_known(
-        nodes, tails, heads, weights, out_arcs, out_begins, in_arcs, in_begins, number, tail, head,
-        weight,
-    )
+    check_held(arcs.network(nodes), held.shown())?;
+    edit_known(nodes, arcs, held, change)
 }

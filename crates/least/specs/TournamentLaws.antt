@@ -2,7 +2,7 @@
 -- Assumes nothing.
 use Rattle.std.specs.Prelude.{◌≡◌, ◌≢◌, List, [], ◌∷◌, ℕ, zero, suc, ◌+◌, ◌*◌, ◌-◌, ◌/◌, ◌<◌, ◌≤◌, min, length, get_or, set, drop, replicate}
 use Rattle.std.proofs.Common.{sym, ap, subst, ◌∙◌, arith, length-set, get_or-set_same, get_or-set_other, get_or-drop, drop-set-lt, ext_get_or}
-use Rattle.std.proofs.lemmas.List.{length-replicate, get_or-replicate, drop-set-add, set-get_or}
+use Rattle.std.proofs.lemmas.List.{length-replicate, drop-replicate, get_or-replicate, drop-set-add, set-get_or}
 use Rattle.network.specs.CaseSplit.{by_eq, by_lt}
 use Rattle.least.specs.Tournament.{TournamentOf, Tournament, Putting, least_of, lesser_below, no_number, numbers_in}
 
@@ -90,17 +90,18 @@ one_list {numbers} {list} {list'} s t =
 -- ---- a cleared list
 -- a list of one number all over, without its first entries
 drop_replicate : (k n x : ℕ) → drop k (replicate (k + n) x) ≡ replicate n x
-drop_replicate zero n x = let e : 0 + n ≡ n = omega arith in rw e
-drop_replicate (suc k) n x = let e : suc k + n ≡ suc (k + n) = omega arith in rw e (drop_replicate k n x)
+drop_replicate k n x =
+    let behind : k + n - k ≡ n = omega arith in
+    simp (drop-replicate, behind)
 
 -- a list whose entries hold no number stands for as many places that hold none
 pub cleared : (n long : ℕ) {list : List ℕ} → long + 1 ≡ n + n → list ≡ replicate long no_number → TournamentOf (replicate n no_number) list
 cleared n long h e =
     let size : length (replicate long no_number) ≡ long = length-replicate long no_number in
-    let apart : long ≡ long / 2 + n = omega arith in
+    let behind : long - long / 2 ≡ n = omega arith in
     rw e (record {
       long = simp length-replicate h;
-      last = rw size (ap (λ k. drop (long / 2) (replicate k no_number)) apart ∙ drop_replicate (long / 2) n no_number);
+      last = rw size (simp (drop-replicate, behind));
       minima = λ i p.
           omega (
             arith,

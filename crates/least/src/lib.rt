@@ -3,26 +3,18 @@
 // is the least of all. One number that changes mends the entries above it and no others.
 #![tactic(auto)]
 
-ghost use Rattle.std.specs.Prelude.{◌≡◌, min, length, replicate, set};
+ghost use Rattle.std.specs.Prelude.{◌≡◌, length, replicate, set};
 ghost use Rattle.least.specs.Tournament.{Putting, TournamentOf, Tournament, least_of, no_number, numbers_in};
 
-// The number of a place that holds none: no other is greater.
-pub const NO_NUMBER: u64 = 18446744073709551615;
-
-// The lesser of two numbers.
-fn lesser(a: u64, b: u64) -> u64
-    ensures { result ≡ min a b }
-{
-    if a < b { a } else { b }
-}
+// The number of a place that holds none: no other is greater. It is a number and no None, since an entry has 64 bits and stands
+// among those whose least is taken: an empty place is passed over with no test of its own.
+pub const NO_NUMBER: u64 = u64::MAX;
 
 // Every entry holds no number.
 pub fn clear(list: &mut [u64])
     ensures { list.new ≡ replicate (length list.old) no_number }
 {
-    for i in 0..list.len() {
-        list[i] = NO_NUMBER;
-    }
+    list.fill(NO_NUMBER);
 }
 
 // Number v becomes x; if it is x already, nothing happens. The entries above it are mended one after the other, up to the first:
@@ -37,9 +29,10 @@ pub fn put(list: &mut [u64], v: usize, x: u64)
     }
     list[i] = x;
     let mut least = x;
+    // The walk goes from an entry to the one above it, half as far from the first: no pass over the list visits these alone.
     while 0 < i {
         let above = (i - 1) / 2;
-        least = lesser(least, list[4 * above + 3 - i]);
+        least = least.min(list[4 * above + 3 - i]);
         list[above] = least;
         i = above;
     }

@@ -1,8 +1,7 @@
 -- The least number of a queue stands for the node that the side takes: the one with the least key, the lowest number among equals.
 -- Assumes nothing.
-use Rattle.std.specs.Prelude.{◌≡◌, refl, true, false, List, eqb, ltb, ℤ, pos, length, get_or}
+use Rattle.std.specs.Prelude.{◌≡◌, refl, true, false, List, ℕ, zero, suc, ◌^◌, ◌<◌, ◌≤◌, min, eqb, ltb, ℤ, pos, length, get_or}
 use Rattle.std.proofs.Common.{sym, ap, ◌∙◌, arith, ne_eqb, ltb-true}
-use Prim.Native.Nat.{ℕ, zero, suc, ◌<◌, ◌≤◌, ◌^◌, min}
 use Rattle.std.specs.Int.Signed.{mag, lt_z}
 use Rattle.network.specs.CaseSplit.{cases, by_bool, by_lt, both_true}
 use Rattle.network.specs.Network.{most_nodes}

@@ -1,6 +1,6 @@
 -- Each public function's contract admits a single answer: whatever two runs on the same input return and leave in the lent list,
 -- they are the same. Assumes nothing.
-use Rattle.std.specs.Prelude.{◌≡◌, List, ℕ, ℤ}
+use Rattle.std.specs.Prelude.{◌≡◌, List, ℕ, ℤ, Option}
 use Rattle.std.proofs.Common.{sym, ◌∙◌}
 use Rattle.least.specs.TournamentLaws.{one_list}
 use Rattle.steps.specs.declared.Candidate.{Candidate}
@@ -21,5 +21,5 @@ pub leave_one_answer : (before list list' : List ℕ) (v : ℕ) → LeftQueue v 
 leave_one_answer before list list' v s t = one_list s t
 
 -- `next_node`
-pub next_node_one_answer : (list : List ℕ) (r s : Candidate) → meant r ≡ next_in list → meant s ≡ next_in list → r ≡ s
+pub next_node_one_answer : (list : List ℕ) (r s : Option Candidate) → meant r ≡ next_in list → meant s ≡ next_in list → r ≡ s
 next_node_one_answer list r s e f = same_candidate r s (e ∙ sym f)

@@ -14,31 +14,31 @@ ghost use Rattle.queue.specs.Queue.{BegunQueue, Entered, LeftQueue, Spacious, ne
 use steps::Candidate;
 
 // What a key is raised by, so that no code is below 0: every key is less than this, with either sign.
-const RAISE: i64 = 1099511627776;
+const RAISE: i64 = 1 << 40;
 
 // The most nodes, as a factor of codes.
 const NODES: u64 = network::MOST_NODES as u64;
 
-// The code of node v with a key.
-fn encode(key: i64, v: u16) -> u64
-    requires { mag key < raise }
-    ensures { result ≡ code key v }
+// The code of a node and its key. It is a bare number and has no type of its own, since the lists of `least` hold numbers and
+// compare them.
+#[tactic(auto, using(crate::specs::CodeLaws::up_is, crate::specs::CodeLaws::code_is, network::specs::Shift::low_mag))]
+fn encode(waiting: Candidate) -> u64
+    requires { mag waiting.key < raise }
+    ensures { result ≡ code waiting.key waiting.node }
 {
-    (key + RAISE) as u64 * NODES + v as u64
+    (waiting.key + RAISE).cast_unsigned() * NODES + u64::from(waiting.node)
 }
 
-// The node of a code.
-fn node_of(x: u64) -> u16
-    ensures { result ≡ x % most_nodes }
+// The node and the key of a code.
+#[tactic(auto, unfolding(crate::specs::Code::key_in))]
+fn decode(x: u64) -> Candidate
+    ensures node { result.node ≡ x % most_nodes }
+    ensures key { result.key ≡ key_in x }
 {
-    (x % NODES) as u16
-}
-
-// The key of a code.
-fn key_of(x: u64) -> i64
-    ensures { result ≡ key_in x }
-{
-    (x / NODES) as i64 - RAISE
+    Candidate {
+        node: (x % NODES) as u16,
+        key: (x / NODES).cast_signed() - RAISE,
+    }
 }
 
 // At the beginning one node waits, the side's source, with label 0.
@@ -55,8 +55,11 @@ pub fn enter(queue: &mut [u64], v: u16, label: u32, potential: i32)
     requires { Putting queue.old v }
     ensures { Entered v label potential queue.old queue.new }
 {
-    let x = encode(steps::key(label, potential), v);
-    least::put(queue, v as usize, x);
+    let x = encode(Candidate {
+        node: v,
+        key: steps::key(label, potential),
+    });
+    least::put(queue, usize::from(v), x);
 }
 
 // Node v does not wait any more, whether it did or not.
@@ -64,17 +67,18 @@ pub fn leave(queue: &mut [u64], v: u16)
     requires { Putting queue.old v }
     ensures { LeftQueue v queue.old queue.new }
 {
-    least::put(queue, v as usize, least::NO_NUMBER);
+    least::put(queue, usize::from(v), least::NO_NUMBER);
 }
 
 // The node with the least key, the lowest number among equals, or none if no node waits.
-pub fn next_node(queue: &[u64]) -> Candidate
+#[tactic(auto, unfolding(crate::specs::Code::meaning))]
+pub fn next_node(queue: &[u64]) -> Option<Candidate>
     requires { Tournament queue.now }
     ensures { meant result ≡ next_in queue.now }
 {
     let x = least::least(queue);
     if x == least::NO_NUMBER {
-        return Candidate::Nothing;
+        return None;
     }
-    Candidate::Node(node_of(x), key_of(x))
+    Some(decode(x))
 }

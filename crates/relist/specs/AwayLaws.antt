@@ -1,15 +1,14 @@
 -- A listing beside the one in which an arc is taken away and stands at none of the nodes: it is that one with the arc put in at
 -- its place. So the listings before and after a move are compared, by the one that both of them have in common. Assumes nothing.
-use Rattle.std.specs.Prelude.{◌≡◌, ◌≢◌, [], ◌∷◌, ◌++◌, eqb}
-use Rattle.std.proofs.Math.Path.{refl, sym, ap, ap₂}
-use Rattle.std.proofs.Common.{◌∙◌, arith, ne_eqb}
-use Prim.Native.Nat.{ℕ, zero, suc, ◌+◌, ◌<◌, ◌≤◌}
-use Rattle.std.proofs.Math.ListN.{length}
+use Rattle.std.specs.Prelude.{◌≡◌, refl, ◌≢◌, [], ◌∷◌, ◌++◌, ℕ, zero, suc, ◌+◌, ◌<◌, ◌≤◌, eqb, length}
+use Rattle.std.specs.List.{insert}
+use Rattle.std.proofs.Common.{sym, ap, ap₂, ◌∙◌, arith, ne_eqb}
+use Rattle.std.proofs.lemmas.List.Edits.{insert_end, insert-append_left}
 use Rattle.network.specs.CaseSplit.{by_eq}
 use Rattle.listing.specs.Listing.{listed_at, node_by_node, count_before}
 use Rattle.listing.specs.ListingLaws.{listed_same, listed_other, length_rises, before_next, before_rises, length_by_node}
-use Rattle.relist.specs.Inner.{insert, one_after}
-use Rattle.relist.specs.InnerLaws.{insert_first, insert_second, insert_last, length_insert, after_not, after_own, after_other}
+use Rattle.relist.specs.Inner.{one_after}
+use Rattle.relist.specs.InnerLaws.{insert_second, length_insert, after_not, after_own, after_other}
 
 -- arc a, one of m, is listed at one of n nodes, and when it is taken away at none; the other arcs stay
 pub record Away (m n a : ℕ) (at off : ℕ → ℕ) : Type 0 where
@@ -41,19 +40,19 @@ module _ {m n a : ℕ} {at off : ℕ → ℕ} (s : Away m n a at off) where
       (other_test w c))
 
   -- those of arc a's
-  listed_home : (b : ℕ) → a < b → listed_at at (at a) b ≡ insert (length (listed_at off (at a) a)) a (listed_at off (at a) b)
+  listed_home : (b : ℕ) → a < b → listed_at at (at a) b ≡ insert (listed_at off (at a) b) (length (listed_at off (at a) a)) a
   listed_home zero h = absurd (omega arith)
   listed_home (suc b) h =
       let u = at a in
       let k = length (listed_at off u a) in
       by_eq b a
       (λ z. rw z (listed_same at u a refl ∙ ap (λ l. l ++ (a ∷ [])) (listed_below u a (omega arith))
-      ∙ sym (ap (insert k a) (listed_other off u a (λ y. omega (arith, s.away, s.home))) ∙ insert_last a (listed_at off u a))))
+      ∙ sym (ap (λ l. insert l k a) (listed_other off u a (λ y. omega (arith, s.away, s.home))) ∙ insert_end (listed_at off u a) a)))
       (λ z. let rest = listed_home b (omega arith) in
       by_eq (at b) u
       (λ y. listed_same at u b y ∙ ap (λ l. l ++ (b ∷ [])) rest
-      ∙ sym (ap (insert k a) (listed_same off u b (s.others b z ∙ y)) ∙ insert_first k a (listed_at off u b) (b ∷ []) (length_rises off u a b (omega arith))))
-      (λ y. listed_other at u b y ∙ rest ∙ sym (ap (insert k a) (listed_other off u b (λ x. y (sym (s.others b z) ∙ x))))))
+      ∙ sym (ap (λ l. insert l k a) (listed_same off u b (s.others b z ∙ y)) ∙ insert-append_left (listed_at off u b) (b ∷ []) k a (length_rises off u a b (omega arith))))
+      (λ y. listed_other at u b y ∙ rest ∙ sym (ap (λ l. insert l k a) (listed_other off u b (λ x. y (sym (s.others b z) ∙ x))))))
 
   -- ---- where they begin: one later after arc a's node
   pub before_with : (w : ℕ) → w ≤ n → count_before at m w ≡ count_before off m w + one_after (at a) w
@@ -76,7 +75,7 @@ module _ {m n a : ℕ} {at off : ℕ → ℕ} (s : Away m n a at off) where
   by_node_before (suc w) h = ap₂ (λ x y. x ++ y) (by_node_before w (omega arith)) (listed_elsewhere w m (omega (arith, s.home)) (λ z. omega arith))
 
   by_node_after : (w : ℕ) → at a < w → w ≤ n
-      → node_by_node at m w ≡ insert (count_before off m (at a) + length (listed_at off (at a) a)) a (node_by_node off m w)
+      → node_by_node at m w ≡ insert (node_by_node off m w) (count_before off m (at a) + length (listed_at off (at a) a)) a
   unfolding node_by_node
   by_node_after zero h k = absurd (omega arith)
   by_node_after (suc w) h k =
@@ -86,12 +85,12 @@ module _ {m n a : ℕ} {at off : ℕ → ℕ} (s : Away m n a at off) where
       (λ z. rw z (ap₂ (λ x y. x ++ y) (by_node_before u (omega arith)) (listed_home m s.arc)
       ∙ sym (insert_second below a (node_by_node off m u) (listed_at off u m) (count_before off m u + below) (omega (arith, length_by_node off m u)))))
       (λ d. ap₂ (λ x y. x ++ y) (by_node_after w (omega arith) (omega arith)) (listed_elsewhere w m (omega arith) d)
-      ∙ sym (insert_first (count_before off m u + below) a (node_by_node off m w) (listed_at off w m)
+      ∙ sym (insert-append_left (node_by_node off m w) (listed_at off w m) (count_before off m u + below) a
       (omega (arith, length_rises off u a m (omega (arith, s.arc)), before_next off m u, before_rises off m (suc u) w (omega arith), length_by_node off m w))))
 
   -- THE LAW OF AN ARC TAKEN AWAY
-  pub by_node_with : node_by_node at m n ≡ insert (count_before at m (at a) + length (listed_at at (at a) a)) a (node_by_node off m n)
+  pub by_node_with : node_by_node at m n ≡ insert (node_by_node off m n) (count_before at m (at a) + length (listed_at at (at a) a)) a
   by_node_with =
       let same : count_before off m (at a) + length (listed_at off (at a) a) ≡ count_before at m (at a) + length (listed_at at (at a) a) =
       omega (arith, place_is (at a) (omega (arith, s.home)), after_not (at a) (at a) (omega arith)) in
-      by_node_after n s.home (omega arith) ∙ ap (λ k. insert k a (node_by_node off m n)) same
+      by_node_after n s.home (omega arith) ∙ ap (λ k. insert (node_by_node off m n) k a) same

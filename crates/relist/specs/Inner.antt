@@ -1,6 +1,6 @@
--- What the functions inside promise each other: where an arc's place in a part is, a list with an entry left out or put in, and
--- the begins with an arc moved from one node to another. Assumes nothing.
-use Rattle.std.specs.Prelude.{◌≡◌, cond, List, [], ◌∷◌, ℕ, zero, suc, ◌+◌, ◌<◌, ◌≤◌, ltb, length, get_or}
+-- What the functions inside promise each other: where an arc's place in a part is, and the begins with an arc moved from one node
+-- to another. Assumes nothing.
+use Rattle.std.specs.Prelude.{◌≡◌, cond, List, ℕ, ◌+◌, ◌<◌, ◌≤◌, ltb, length, get_or}
 use Rattle.network.specs.Network.{most_arcs}
 
 -- node w has a part in the lists: it begins, and ends where the next one begins
@@ -9,24 +9,16 @@ pub record HasPart (arcs begins : List ℕ) (w : ℕ) : Type 0 where
   pub ordered : get_or begins w 0 ≤ get_or begins (w + 1) 0
   pub within : get_or begins (w + 1) 0 ≤ length arcs
 
+-- of the entries from `from` on and before `to` those that are below a come first
+abbrev pub BelowFirst : List ℕ → ℕ → ℕ → ℕ → Type 0
+BelowFirst arcs from to a = (i j : ℕ) → from ≤ i → i ≤ j → j < to → get_or arcs j 0 < a → get_or arcs i 0 < a
+
 -- r is the first place from `from` on and before `to` whose entry is not below a, or `to` if there is none
 pub record FirstNotBelow (arcs : List ℕ) (from to a r : ℕ) : Type 0 where
   pub from_on : from ≤ r
   pub not_beyond : r ≤ to
   pub below : (i : ℕ) → from ≤ i → i < r → get_or arcs i 0 < a
   pub not_below : r < to → a ≤ get_or arcs r 0
-
--- the list without entry i
-unfoldable pub without : ℕ → List ℕ → List ℕ
-without i [] = []
-without zero (x ∷ l) = l
-without (suc i) (x ∷ l) = x ∷ without i l
-
--- the list with x as entry i, and the entries from i on one later
-unfoldable pub insert : ℕ → ℕ → List ℕ → List ℕ
-insert zero x l = x ∷ l
-insert (suc i) x [] = x ∷ []
-insert (suc i) x (y ∷ l) = y ∷ insert i x l
 
 -- 1 for the nodes after u, whose part begins one later for an arc of u, and 0 for the others
 unfoldable pub one_after : ℕ → ℕ → ℕ

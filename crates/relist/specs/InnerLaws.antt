@@ -1,96 +1,104 @@
--- Laws of a list with an entry left out or put in, and of the begins while an arc moves from node to node. Assumes nothing.
-use Rattle.std.specs.Prelude.{◌≡◌, refl, ◌≢◌, List, [], ◌∷◌, ◌++◌, ℕ, zero, suc, ◌+◌, ◌-◌, ◌<◌, ◌≤◌, length, get_or, set}
-use Rattle.std.proofs.Common.{sym, ap, ◌∙◌, arith, add-one, length-set, get_or-set_same, get_or-set_other, lt-ltb, le-ltb}
+-- Laws of a list with an entry taken out or put in, and of the begins while an arc moves from node to node. Assumes nothing.
+use Rattle.std.specs.Prelude.{◌≡◌, refl, ◌≢◌, List, [], ◌∷◌, ◌++◌, ℕ, zero, suc, ◌+◌, ◌-◌, ◌<◌, ◌≤◌, length, get_or, take, drop, set}
+use Rattle.std.specs.List.{insert, remove}
+use Rattle.std.proofs.Common.{sym, ap, ap₂, ◌∙◌, arith, add-one, length-append, length-drop, length-set, get_or-set_same, get_or-set_other, take-suc, take-append-drop, get_or-drop, lt-ltb, le-ltb}
+use Rattle.std.proofs.Math.ListN.{length-take}
+use Rattle.std.proofs.Math.Seq.{drop-cons}
+use Rattle.std.proofs.lemmas.List.{append_assoc, length-take-le, take_at, drop_at}
+use Rattle.std.proofs.lemmas.List.Edits.{insert-append_right, remove-append_right, get_or-insert_below, get_or-insert_above}
 use Rattle.network.specs.CaseSplit.{by_eq, by_lt}
-use Rattle.relist.specs.Inner.{without, insert, one_after, ArcMoved}
+use Rattle.relist.specs.Inner.{one_after, ArcMoved}
 
 -- ---- entries below a, and one more
 pub below_next : (arcs : List ℕ) (from i a : ℕ) → ((j : ℕ) → from ≤ j → j < i → get_or arcs j 0 < a) → get_or arcs i 0 < a
     → (j : ℕ) → from ≤ j → j < i + 1 → get_or arcs j 0 < a
 below_next arcs from i a h e j f k = by_eq j i (λ z. rw z e) (λ d. h j f (omega arith))
 
--- ---- the entry left out can be the next one if that is copied, or the one before
-without_next : (i : ℕ) (l : List ℕ) → suc i < length l → without (suc i) (set l i (get_or l (suc i) 0)) ≡ without i l
-unfolding without
-without_next i [] h = absurd (omega arith)
-without_next zero (x ∷ []) h = absurd (omega arith)
-without_next zero (x ∷ y ∷ l) h = refl
-without_next (suc i) (x ∷ l) h = ap (λ t. x ∷ t) (without_next i l (omega arith))
+-- ---- the entry taken out can be the next one if that is copied, or the one before
+remove_next : (i : ℕ) (l : List ℕ) → suc i < length l → remove (set l i (get_or l (suc i) 0)) (suc i) ≡ remove l i
+remove_next i [] h = absurd (omega arith)
+remove_next zero (x ∷ []) h = absurd (omega arith)
+remove_next zero (x ∷ y ∷ l) h = refl
+remove_next (suc i) (x ∷ l) h = ap (λ t. x ∷ t) (remove_next i l (omega arith))
 
-without_previous : (i : ℕ) (l : List ℕ) → suc i < length l → without i (set l (suc i) (get_or l i 0)) ≡ without (suc i) l
-unfolding without
-without_previous i [] h = absurd (omega arith)
-without_previous zero (x ∷ []) h = absurd (omega arith)
-without_previous zero (x ∷ y ∷ l) h = refl
-without_previous (suc i) (x ∷ l) h = ap (λ t. x ∷ t) (without_previous i l (omega arith))
+remove_previous : (i : ℕ) (l : List ℕ) → suc i < length l → remove (set l (suc i) (get_or l i 0)) i ≡ remove l (suc i)
+remove_previous i [] h = absurd (omega arith)
+remove_previous zero (x ∷ []) h = absurd (omega arith)
+remove_previous zero (x ∷ y ∷ l) h = refl
+remove_previous (suc i) (x ∷ l) h = ap (λ t. x ∷ t) (remove_previous i l (omega arith))
 
--- as the code counts
-pub without_on : (i : ℕ) (l : List ℕ) → i + 1 < length l → without (i + 1) (set l i (get_or l (i + 1) 0)) ≡ without i l
-without_on i l h = rw (add-one i) (without_next i l (omega arith))
+-- as the places are counted
+pub remove_on : (i : ℕ) (l : List ℕ) → i + 1 < length l → remove (set l i (get_or l (i + 1) 0)) (i + 1) ≡ remove l i
+remove_on i l h = rw (add-one i) (remove_next i l (omega arith))
 
-pub without_back : (i : ℕ) (l : List ℕ) → 0 < i → i < length l → without (i - 1) (set l i (get_or l (i - 1) 0)) ≡ without i l
-without_back zero l h k = absurd (omega arith)
-without_back (suc i) l h k = let e : suc i - 1 ≡ i = omega arith in rw e (without_previous i l k)
+pub remove_back : (i : ℕ) (l : List ℕ) → 0 < i → i < length l → remove (set l i (get_or l (i - 1) 0)) (i - 1) ≡ remove l i
+remove_back zero l h k = absurd (omega arith)
+remove_back (suc i) l h k = let e : suc i - 1 ≡ i = omega arith in rw e (remove_previous i l k)
 
--- ---- an entry is written: it is left out and another put in
-pub set_is : (i x : ℕ) (l : List ℕ) → i < length l → set l i x ≡ insert i x (without i l)
-unfolding without insert
+-- ---- an entry is written: it is taken out and another put in
+pub set_is : (i x : ℕ) (l : List ℕ) → i < length l → set l i x ≡ insert (remove l i) i x
 set_is i x [] h = absurd (omega arith)
 set_is zero x (y ∷ l) h = refl
 set_is (suc i) x (y ∷ l) h = ap (λ t. y ∷ t) (set_is i x l (omega arith))
 
-pub without_insert : (i x : ℕ) (l : List ℕ) → i ≤ length l → without i (insert i x l) ≡ l
-unfolding without insert
-without_insert zero x l h = refl
-without_insert (suc i) x [] h = absurd (omega arith)
-without_insert (suc i) x (y ∷ l) h = ap (λ t. y ∷ t) (without_insert i x l (omega arith))
+-- ---- an entry put in
+pub length_insert : (i x : ℕ) (l : List ℕ) → length (insert l i x) ≡ suc (length l)
+length_insert i x l = omega (arith, length-append (take i l) (x ∷ drop i l), length-take i l, length-drop i l)
 
--- ---- an entry put in: into the first of two lists, into the second, and at the end
-pub insert_first : (i x : ℕ) (l k : List ℕ) → i ≤ length l → insert i x (l ++ k) ≡ insert i x l ++ k
-unfolding insert
-insert_first zero x l k h = refl
-insert_first (suc i) x [] k h = absurd (omega arith)
-insert_first (suc i) x (y ∷ l) k h = ap (λ t. y ∷ t) (insert_first i x l k (omega arith))
+pub remove_insert : (i x : ℕ) (l : List ℕ) → i ≤ length l → remove (insert l i x) i ≡ l
+remove_insert i x l h =
+    let long = length-take-le i l h in
+    let beyond : drop (suc i) (insert l i x) ≡ drop i l =
+    ap (drop (suc i)) (sym (append_assoc (take i l) (x ∷ []) (drop i l)))
+    ∙ drop_at (take i l ++ (x ∷ [])) (drop i l) (suc i) (omega (arith, length-append (take i l) (x ∷ []))) in
+    ap₂ (λ y z. y ++ z) (take_at (take i l) (x ∷ drop i l) i long) beyond ∙ take-append-drop i l
 
-pub insert_second : (i x : ℕ) (l k : List ℕ) (j : ℕ) → j ≡ length l + i → insert j x (l ++ k) ≡ l ++ insert i x k
-unfolding insert
-insert_second i x [] k j e = let z : j ≡ i = omega arith in rw z refl
-insert_second i x (y ∷ l) k zero e = absurd (omega arith)
-insert_second i x (y ∷ l) k (suc j) e = ap (λ t. y ∷ t) (insert_second i x l k j (omega arith))
+-- put into the second of two lists
+pub insert_second : (i x : ℕ) (l k : List ℕ) (j : ℕ) → j ≡ length l + i → insert (l ++ k) j x ≡ l ++ insert k i x
+insert_second i x l k j e =
+    let there : j - length l ≡ i = omega arith in
+    insert-append_right l k (length l) j x refl (omega arith) ∙ ap (λ m. l ++ insert k m x) there
 
-pub insert_last : (x : ℕ) (l : List ℕ) → insert (length l) x l ≡ l ++ (x ∷ [])
-unfolding insert
-insert_last x [] = refl
-insert_last x (y ∷ l) = ap (λ t. y ∷ t) (insert_last x l)
+-- put in at one of two places it leaves the entries before both, and those beyond both
+pub insert_same_before : (p q x : ℕ) (l : List ℕ) (j : ℕ) → p ≤ length l → q ≤ length l → j < p → j < q → get_or (insert l p x) j 0 ≡ get_or (insert l q x) j 0
+insert_same_before p q x l j h i f g = get_or-insert_below l p x 0 j f h ∙ sym (get_or-insert_below l q x 0 j g i)
 
-pub length_insert : (i x : ℕ) (l : List ℕ) → length (insert i x l) ≡ suc (length l)
-unfolding insert
-length_insert zero x l = refl
-length_insert (suc i) x [] = refl
-length_insert (suc i) x (y ∷ l) = ap suc (length_insert i x l)
+pub insert_same_beyond : (p q x : ℕ) (l : List ℕ) (j : ℕ) → p ≤ length l → q ≤ length l → p < j → q < j → get_or (insert l p x) j 0 ≡ get_or (insert l q x) j 0
+insert_same_beyond p q x l j h i f g =
+    let before : (j - 1) + 1 ≡ j = omega arith in
+    rw (sym before) (get_or-insert_above l p x 0 (j - 1) (omega arith) h ∙ sym (get_or-insert_above l q x 0 (j - 1) (omega arith) i))
 
--- ---- the other entries: those before it stay, those after it are one later
-insert_before : (i x : ℕ) (l : List ℕ) (j : ℕ) → i ≤ length l → j < i → get_or (insert i x l) j 0 ≡ get_or l j 0
-unfolding insert
-insert_before zero x l j h k = absurd (omega arith)
-insert_before (suc i) x [] j h k = absurd (omega arith)
-insert_before (suc i) x (y ∷ l) zero h k = refl
-insert_before (suc i) x (y ∷ l) (suc j) h k = insert_before i x l j (omega arith) (omega arith)
+-- ---- an entry taken out and put in at another place: those between are turned by one place
+pub turned_left : (p q : ℕ) (l : List ℕ) → p ≤ q → q < length l
+    → let part = take (q + 1 - p) (drop p l) in
+    take p l ++ ((drop 1 part ++ take 1 part) ++ drop (q + 1 - p) (drop p l)) ≡ insert (remove l p) q (get_or l p 0)
+turned_left p q l h k =
+    let x = get_or l p 0 in
+    let rest = drop (suc p) l in
+    let more : q + 1 - p ≡ suc (q - p) = omega arith in
+    rw (more, drop-cons l p 0 (omega arith))
+    (ap (λ t. take p l ++ t) (append_assoc (take (q - p) rest) (x ∷ []) (drop (q - p) rest))
+    ∙ sym (insert-append_right (take p l) rest p q x (length-take-le p l (omega arith)) h))
 
-insert_after : (i x : ℕ) (l : List ℕ) (j : ℕ) → i ≤ length l → i ≤ j → get_or (insert i x l) (suc j) 0 ≡ get_or l j 0
-unfolding insert
-insert_after zero x l j h k = refl
-insert_after (suc i) x [] j h k = absurd (omega arith)
-insert_after (suc i) x (y ∷ l) zero h k = absurd (omega arith)
-insert_after (suc i) x (y ∷ l) (suc j) h k = insert_after i x l j (omega arith) (omega arith)
-
--- so an entry put in at one of two places leaves the entries before both, and those beyond both
-pub insert_same_before : (p q x : ℕ) (l : List ℕ) (j : ℕ) → p ≤ length l → q ≤ length l → j < p → j < q → get_or (insert p x l) j 0 ≡ get_or (insert q x l) j 0
-insert_same_before p q x l j h i f g = insert_before p x l j h f ∙ sym (insert_before q x l j i g)
-
-pub insert_same_beyond : (p q x : ℕ) (l : List ℕ) (j : ℕ) → p ≤ length l → q ≤ length l → p < j → q < j → get_or (insert p x l) j 0 ≡ get_or (insert q x l) j 0
-insert_same_beyond p q x l zero h i f g = absurd (omega arith)
-insert_same_beyond p q x l (suc j) h i f g = insert_after p x l j h (omega arith) ∙ sym (insert_after q x l j i (omega arith))
+pub turned_right : (p q : ℕ) (l : List ℕ) → q ≤ p → p < length l
+    → let part = take (p + 1 - q) (drop q l) in
+    take q l ++ ((drop (length part - 1) part ++ take (length part - 1) part) ++ drop (p + 1 - q) (drop q l)) ≡ insert (remove l p) q (get_or l p 0)
+turned_right p q l h k =
+    let x = get_or l p 0 in
+    let part = drop q l in
+    let n = p - q in
+    let more : p + 1 - q ≡ suc n = omega arith in
+    let there : q + n ≡ p = omega arith in
+    let inside : n < length part = omega (arith, length-drop q l) in
+    let last : take (suc n) part ≡ take n part ++ (x ∷ []) =
+    take-suc part n 0 inside ∙ ap (λ y. take n part ++ (y ∷ [])) (get_or-drop q l n 0 ∙ ap (λ j. get_or l j 0) there) in
+    let long = length-take-le n part (omega arith) in
+    let before_last : length (take n part ++ (x ∷ [])) - 1 ≡ n = omega (arith, length-append (take n part) (x ∷ [])) in
+    let front = length-take-le q l (omega arith) in
+    let gone : remove l p ≡ take q l ++ remove part n =
+    ap (λ t. remove t p) (sym (take-append-drop q l)) ∙ remove-append_right (take q l) part q p front h in
+    rw (more, last, before_last, drop_at (take n part) (x ∷ []) n long, take_at (take n part) (x ∷ []) n long)
+    (sym (ap (λ t. insert t q x) gone ∙ ap₂ (λ y z. y ++ (x ∷ z)) (take_at (take q l) (remove part n) q front) (drop_at (take q l) (remove part n) q front)))
 
 -- ---- nodes after a node
 pub after_is : (u w : ℕ) → u < w → one_after u w ≡ 1

@@ -1,11 +1,10 @@
 -- Laws of a listing in which one arc gets another near node: that it can be listed, which entries stay, and what the pieces of
 -- the code make of the lists. Assumes nothing.
-use Rattle.std.specs.Prelude.{◌≡◌, refl, List, ◌++◌, set}
-use Rattle.std.proofs.Math.Path.{sym, ap, ap₂}
-use Rattle.std.proofs.Common.{◌∙◌, arith, length-set, length-drop, get_or-set_same, get_or-set_other, set-set, get_or-drop, ext_get_or}
-use Prim.Native.Nat.{ℕ, suc, ◌+◌, ◌-◌, ◌<◌, ◌≤◌}
-use Rattle.std.proofs.Math.ListN.{length, get_or, drop, length-append}
+use Rattle.std.specs.Prelude.{◌≡◌, refl, List, ◌++◌, ℕ, suc, ◌+◌, ◌-◌, ◌<◌, ◌≤◌, length, get_or, set, drop}
+use Rattle.std.specs.List.{insert, remove}
+use Rattle.std.proofs.Common.{sym, ap, ap₂, ◌∙◌, arith, length-append, length-set, length-drop, get_or-set_same, get_or-set_other, set-set, get_or-drop, ext_get_or}
 use Rattle.std.proofs.lemmas.List.{set-get_or}
+use Rattle.std.proofs.lemmas.List.Edits.{insert-append_left}
 use Rattle.network.specs.CaseSplit.{by_eq, by_lt}
 use Rattle.network.specs.Front.{at_front}
 use Rattle.network.specs.FrontLaws.{front_is, drop_front}
@@ -14,8 +13,8 @@ use Rattle.listing.specs.ListingLaws.{length_below, before_most, place_below, le
 use Rattle.listing.specs.PartLaws.{begin_is, begins_room}
 use Rattle.listing.specs.OneAnswer.{list_arcs_one_answer}
 use Rattle.relist.specs.Relist.{place_at, arc_place, OnlyBetween}
-use Rattle.relist.specs.Inner.{without, insert, one_after, ArcMoved}
-use Rattle.relist.specs.InnerLaws.{without_insert, insert_first, insert_same_before, insert_same_beyond, length_insert, after_is, after_not}
+use Rattle.relist.specs.Inner.{one_after, ArcMoved}
+use Rattle.relist.specs.InnerLaws.{remove_insert, insert_same_before, insert_same_beyond, length_insert, after_is, after_not}
 use Rattle.relist.specs.AwayLaws.{Away, listed_below, before_with, by_node_with}
 
 -- ---- entries beyond those at the front
@@ -58,7 +57,7 @@ module _ {near : List ℕ} {n : ℕ} (s : Listable near n) (a : ℕ) (h : a < le
     others = λ b d. get_or-set_other near a b n 0 d;
   }
 
-  arcs_with : listed_arcs near n ≡ insert (arc_place near a) a (listed_arcs (set near a n) n)
+  arcs_with : listed_arcs near n ≡ insert (listed_arcs (set near a n) n) (arc_place near a) a
   unfolding listed_arcs
   arcs_with = rw (length-set near a n) (by_node_with taken_away)
 
@@ -72,11 +71,11 @@ module _ {near : List ℕ} {n : ℕ} (s : Listable near n) (a : ℕ) (h : a < le
   place_in_rest = omega (arith, place_in_arcs, length_insert (arc_place near a) a (listed_arcs (set near a n) n), ap length arcs_with, length_arcs s)
 
   -- lists that hold the listing
-  front_with : (old : List ℕ) → at_front (listed_arcs near n) old ≡ insert (arc_place near a) a (listed_arcs (set near a n) n ++ drop (length near) old)
+  front_with : (old : List ℕ) → at_front (listed_arcs near n) old ≡ insert (listed_arcs (set near a n) n ++ drop (length near) old) (arc_place near a) a
   unfolding at_front
   front_with old =
       ap₂ (λ l k. l ++ drop k old) arcs_with (length_arcs s)
-      ∙ sym (insert_first (arc_place near a) a (listed_arcs (set near a n) n) (drop (length near) old) place_in_rest)
+      ∙ sym (insert-append_left (listed_arcs (set near a n) n) (drop (length near) old) (arc_place near a) a place_in_rest)
 
 -- ---- the listings before and after arc a's near node becomes `node`
 module _ {near : List ℕ} {n : ℕ} (s : Listable near n) (a node : ℕ) (h : a < length near) (i : node < n) where
@@ -96,10 +95,10 @@ module _ {near : List ℕ} {n : ℕ} (s : Listable near n) (a node : ℕ) (h : a
   new_place_in_rest = omega (arith, place_in_rest still_listable a still_arc, ap (λ l. length (listed_arcs l n)) (set-set near a node n))
 
   new_front_with : (old : List ℕ)
-      → at_front (listed_arcs (set near a node) n) old ≡ insert (arc_place (set near a node) a) a (listed_arcs (set near a n) n ++ drop (length near) old)
+      → at_front (listed_arcs (set near a node) n) old ≡ insert (listed_arcs (set near a n) n ++ drop (length near) old) (arc_place (set near a node) a) a
   new_front_with old =
       front_with still_listable a still_arc old
-      ∙ ap₂ (λ l k. insert (arc_place (set near a node) a) a (listed_arcs l n ++ drop k old)) (set-set near a node n) (length-set near a node)
+      ∙ ap₂ (λ l k. insert (listed_arcs l n ++ drop k old) (arc_place (set near a node) a) a) (set-set near a node n) (length-set near a node)
 
   -- the parts after the old node begin one earlier, those after the new one one later
   new_begin : (w : ℕ) → w ≤ n → begin_of (set near a node) w + one_after (near_of near a) w ≡ begin_of near w + one_after node w
@@ -124,16 +123,16 @@ module _ {near : List ℕ} {n : ℕ} (s : Listable near n) (a node : ℕ) (h : a
 
   -- THE LAW OF A MOVE
   pub relisted : {arcs begins arcs' begins' : List ℕ} → Listed near n arcs begins arcs begins
-      → arcs' ≡ insert (arc_place (set near a node) a) a (without (arc_place near a) arcs)
+      → arcs' ≡ insert (remove arcs (arc_place near a)) (arc_place (set near a node) a) a
       → ArcMoved (near_of near a) node begins begins'
       → Listed (set near a node) n arcs begins arcs' begins'
   unfolding listed_begins
   relisted {arcs} {begins} {arcs'} {begins'} held e moved =
       let rest = listed_arcs (set near a n) n ++ drop (length near) arcs in
       let room : arc_place near a ≤ length rest = omega (arith, place_in_rest s a h, length-append (listed_arcs (set near a n) n) (drop (length near) arcs)) in
-      let gone : without (arc_place near a) arcs ≡ rest = ap (without (arc_place near a)) (held.arcs_are ∙ front_with s a h arcs) ∙ without_insert (arc_place near a) a rest room in
+      let gone : remove arcs (arc_place near a) ≡ rest = ap (λ l. remove l (arc_place near a)) (held.arcs_are ∙ front_with s a h arcs) ∙ remove_insert (arc_place near a) a rest room in
       record {
-        arcs_are = e ∙ ap (insert (arc_place (set near a node) a) a) gone ∙ sym (new_front_with arcs);
+        arcs_are = e ∙ ap (λ l. insert l (arc_place (set near a node) a) a) gone ∙ sym (new_front_with arcs);
         begins_are =
             front_is (listed_begins (set near a node) n) begins begins' (suc n) (length_begins (set near a node) n)
             (values_are begins' (begin_of (set near a node)) (suc n) (omega (arith, moved.long, begins_room held)) entries) beyond;
@@ -161,8 +160,8 @@ module _ {near : List ℕ} {n : ℕ} (s : Listable near n) (a node : ℕ) (h : a
       let long = length-append (listed_arcs (set near a n) n) (drop (length near) arcs₀) in
       let p_in : p ≤ length rest = omega (arith, place_in_rest s a h) in
       let q_in : q ≤ length rest = omega (arith, new_place_in_rest) in
-      let old : arcs₀ ≡ insert p a rest = held.arcs_are ∙ front_with s a h arcs₀ in
-      let new : arcs ≡ insert q a rest = now-held.arcs_are ∙ new_front_with arcs₀ in
+      let old : arcs₀ ≡ insert rest p a = held.arcs_are ∙ front_with s a h arcs₀ in
+      let new : arcs ≡ insert rest q a = now-held.arcs_are ∙ new_front_with arcs₀ in
       record {
         arcs_before_lem = λ j f g. ap (λ l. get_or l j 0) new ∙ insert_same_before q p a rest j q_in p_in g f ∙ sym (ap (λ l. get_or l j 0) old);
         arcs_beyond = λ j f g. ap (λ l. get_or l j 0) new ∙ insert_same_beyond q p a rest j q_in p_in g f ∙ sym (ap (λ l. get_or l j 0) old);

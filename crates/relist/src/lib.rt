@@ -3,71 +3,52 @@
 #![tactic(auto)]
 
 ghost use Rattle.std.specs.Prelude.{◌≡◌, ◌+◌, ◌<◌, ◌≤◌, length, get_or, set};
+ghost use Rattle.std.specs.List.{insert, remove};
 ghost use Rattle.listing.specs.Listing.{Listable, Listed};
-ghost use Rattle.relist.specs.Inner.{ArcMoved, FirstNotBelow, HasBefore, HasPart, HasRoom, insert, without};
+ghost use Rattle.relist.specs.Inner.{ArcMoved, BelowFirst, FirstNotBelow, HasBefore, HasPart, HasRoom};
 
 // The place of arc a in node w's part: before the first arc there that is not below it.
 fn place_in(arcs: &[u16], begins: &[u16], w: usize, a: u16) -> usize
-    requires { HasPart arcs.now begins.now w }
+    requires part { HasPart arcs.now begins.now w }
+    requires below_first { BelowFirst arcs.now (get_or begins.now w 0) (get_or begins.now (w + 1) 0) a }
     ensures { FirstNotBelow arcs.now (get_or begins.now w 0) (get_or begins.now (w + 1) 0) a result }
 {
+    let from = begins[w] as usize;
     let to = begins[w + 1] as usize;
-    let mut i = begins[w] as usize;
-    while i < to {
-        if a <= arcs[i] {
-            return i;
+    from + arcs[from..to].partition_point(|&b| b < a)
+}
+
+// Entry p becomes entry q, and the entries between are shifted by one place towards p.
+fn shift(arcs: &mut [u16], p: usize, q: usize)
+    requires { (p < length arcs.old) × (q < length arcs.old) }
+    ensures { arcs.new ≡ insert (remove arcs.old p) q (get_or arcs.old p 0) }
+{
+    if p < q {
+        arcs[p..=q].rotate_left(1);
+    } else {
+        arcs[q..=p].rotate_right(1);
+    }
+}
+
+// An arc moves from node u to node v: the parts of the nodes after the earlier one of the two, up to the other, begin one earlier
+// if that is v, and one later if it is u.
+fn move_begins(begins: &mut [u16], u: usize, v: usize)
+    requires before { HasBefore u v begins.old }
+    requires room { HasRoom u v begins.old }
+    ensures { ArcMoved u v begins.old begins.new }
+{
+    for begin in begins[u.min(v) + 1..=u.max(v)].iter_mut() {
+        if u < v {
+            *begin -= 1;
+        } else {
+            *begin += 1;
         }
-        i = i + 1;
-    }
-    i
-}
-
-// Arc a, which is entry p, becomes entry q, further on: the entries between are shifted to one place earlier.
-fn shift_earlier(arcs: &mut [u16], p: usize, q: usize, a: u16)
-    requires { (p ≤ q) × (q < length arcs.old) }
-    ensures { arcs.new ≡ insert q a (without p arcs.old) }
-{
-    for i in p..q {
-        arcs[i] = arcs[i + 1];
-    }
-    arcs[q] = a;
-}
-
-// Arc a, which is entry p, becomes entry q, further back: the entries between are shifted to one place later.
-fn shift_later(arcs: &mut [u16], p: usize, q: usize, a: u16)
-    requires { (q ≤ p) × (p < length arcs.old) }
-    ensures { arcs.new ≡ insert q a (without p arcs.old) }
-{
-    let mut i = p;
-    while q < i {
-        arcs[i] = arcs[i - 1];
-        i = i - 1;
-    }
-    arcs[q] = a;
-}
-
-// An arc moves from node u to node v, a later one: the parts of the nodes after u, up to v, begin one earlier.
-fn begin_earlier(begins: &mut [u16], u: usize, v: usize)
-    requires { (u ≤ v) × HasBefore u v begins.old }
-    ensures { ArcMoved u v begins.old begins.new }
-{
-    for w in u + 1..v + 1 {
-        begins[w] = begins[w] - 1;
-    }
-}
-
-// An arc moves from node u to node v, an earlier one: the parts of the nodes after v, up to u, begin one later.
-fn begin_later(begins: &mut [u16], u: usize, v: usize)
-    requires { (v ≤ u) × HasRoom u v begins.old }
-    ensures { ArcMoved u v begins.old begins.new }
-{
-    for w in v + 1..u + 1 {
-        begins[w] = begins[w] + 1;
     }
 }
 
 // The lists hold the listing of the near nodes as they are, and then that with arc a's near node changed to `node`. The near nodes
-// themselves are the caller's to write. If the node is the same, no entry is written.
+// themselves are the caller's to write. If the node is the same, no entry is written. The lists of a way are lent one by one, as to
+// `listing`: no other function here is lent all of them.
 pub fn relist(near: &[u16], nodes: u16, arcs: &mut [u16], begins: &mut [u16], a: u16, node: u16)
     requires listable { Listable near.now nodes }
     requires listed { Listed near.now nodes arcs.old begins.old arcs.old begins.old }
@@ -80,12 +61,8 @@ pub fn relist(near: &[u16], nodes: u16, arcs: &mut [u16], begins: &mut [u16], a:
         return;
     }
     let p = place_in(arcs, begins, u, a);
-    let q = place_in(arcs, begins, v, a);
-    if u < v {
-        shift_earlier(arcs, p, q - 1, a);
-        begin_earlier(begins, u, v);
-        return;
-    }
-    shift_later(arcs, p, q, a);
-    begin_later(begins, u, v);
+    // Without the arc, which stood before it, a later node's part begins one earlier.
+    let q = place_in(arcs, begins, v, a) - usize::from(u < v);
+    shift(arcs, p, q);
+    move_begins(begins, u, v);
 }

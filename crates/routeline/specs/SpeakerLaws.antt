@@ -1,14 +1,10 @@
 -- Laws of the code's speaker: it begins as a talk begins, asks what its talk asks, and each step of it is a step of its talk; so
 -- the program holds a talk that can come to pass, from its beginning on. Assumes nothing.
-use Rattle.std.specs.Prelude.{◌≡◌, true, false, ◌&&◌, eqb, ltb, ℤ, pos, negsuc, take, get_or}
+use Rattle.std.specs.Prelude.{◌≡◌, true, false, ◌&&◌, eqb, ltb, List, [], ◌∷◌, ◌++◌, ℕ, zero, suc, ◌+◌, ◌-◌, ◌≤◌, ◌<◌, min, ℤ, pos, negsuc, length, take, drop, get_or}
 use Rattle.std.proofs.Math.Path.{refl, ap}
-use Rattle.std.proofs.Common.{sym, ◌∙◌, add-one, length-append, length-drop, take-append-drop, take_at, SFits, of_z}
-use mathlib.Core.List.{List, [], ◌∷◌, ◌++◌}
-use Prim.Native.Nat.{ℕ, zero, suc, ◌+◌, ◌-◌, ◌≤◌, ◌<◌, min}
-use native.Mathlib.Omega.{arith}
-use borrow.Author.Tests.{eq-eqb, ne_eqb, eqb-true, ltb-true, lt-ltb}
+use Rattle.std.proofs.Common.{sym, ◌∙◌, arith, add-one, length-append, length-drop, take-append-drop, take_at, SFits, of_z}
+use Rattle.std.proofs.lemmas.Bool.{eq-eqb, ne_eqb, eqb-true, ltb-true, lt-ltb}
 use Rattle.std.specs.Int.Signed.{lt_z}
-use Rattle.std.proofs.Math.ListN.{length, drop}
 use Rattle.std.proofs.Math.Seq.{slice, slice_empty, slice-cons, length-slice, drop-drop, take-nil}
 use Rattle.std.specs.Int.{w32, w64}
 use Rattle.network.specs.CaseSplit.{cases, by_bool, by_eq, by_lt, both_true, true≢false}

@@ -1,11 +1,8 @@
 -- Every talk keeps what is promised of it, whatever the system does. The invariant: while the input goes on, the bytes looked at
 -- are those that were read and are not left to look at, and what they print is what is written and then what is owed; once the
 -- input has ended, the same holds of the file's whole answer. Each event keeps it. Assumes nothing.
-use Rattle.std.specs.Prelude.{◌≡◌, Bool, true, false, ℕ, ◌+◌, drop}
-use Rattle.std.proofs.Math.Path.{refl, sym, ap}
-use Rattle.std.proofs.Common.{◌∙◌, arith, eqb-true, eq-eqb, ne_eqb, length-append, take-append-drop}
-use mathlib.Core.List.{List, [], ◌∷◌, ◌++◌, append_assoc, append-nil}
-use Rattle.std.proofs.Math.ListN.{length, take}
+use Rattle.std.specs.Prelude.{◌≡◌, refl, Bool, true, false, List, [], ◌∷◌, ◌++◌, ℕ, ◌+◌, length, take, drop}
+use Rattle.std.proofs.Common.{sym, ◌∙◌, ap, append_assoc, append-nil, arith, eqb-true, eq-eqb, ne_eqb, length-append, take-append-drop}
 use Rattle.network.specs.CaseSplit.{by_bool, by_eq, cases2, true≢false}
 use Rattle.district.specs.File.{File, FileStep, step, take_byte, end_of_input, feed, answer_from, file_answer}
 use Rattle.district.specs.FileLaws.{feed_append, rest_of, rest_ended}

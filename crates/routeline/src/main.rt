@@ -7,22 +7,20 @@
 
 ghost use Rattle.std.specs.Prelude.{◌≡◌, length};
 ghost use Rattle.std.proofs.Math.Seq.{slice};
-ghost use Rattle.index.specs.Index.{index};
-ghost use Rattle.district.specs.Reader.{lists, Reached};
+ghost use Rattle.index.specs.Lists.{SameIndex};
+ghost use Rattle.district.specs.Reader.{Reached};
+ghost use Rattle.district.specs.Lists.{lists_held, SameFileLists};
 ghost use Rattle.routeline.specs.Talk.{talk_after, talk_looked};
 ghost use Rattle.routeline.specs.Speaker.{talk_of, OwedWithin, Sits, StandsFor, start_speaker, event_of, unmoved_by, error_number, moved_of, error_of, reading_of, writing_of, CameWithin, WentWithin, ReadDid, WriteDid, AsksAs, Answers, looks_on, TellsAs};
 
-use district::Reader;
+use district::{FileLists, Reader};
+use index::IndexLists;
 use std::env::{Env, FillError};
 use std::io::{Cursor, Read, Write};
 use std::time::{Clock, Duration};
 use std::{io, str, thread};
 
-// The entries of the lists that hold a line, the arcs, the potentials, and where each node's arcs begin in the index.
-const DIGITS: usize = frames::MOST_DIGITS;
-
-const ARCS: usize = network::MOST_ARCS;
-
+// The entries of the lists that hold the potentials, and where each node's arcs begin in the index: as lengths of lists.
 const NODES: usize = network::MOST_NODES as usize;
 
 const BEGINS: usize = NODES + 1;
@@ -30,16 +28,14 @@ const BEGINS: usize = NODES + 1;
 // The bytes of one read, at the most.
 const CHUNK: usize = 16384;
 
-// The system's numbers of the two errors after which a call is made again: it was interrupted, it would have to wait.
+// The system's numbers of the two errors after which a call is made again: it was interrupted, it would have to wait. What a call
+// did is defined by these numbers (`unmoved_by` in specs/Speaker.antt), so they are compared as numbers.
 const INTERRUPTED: i32 = 4;
 
 const WOULD_WAIT: i32 = 11;
 
 // The room for the text of an error.
 const REASON: usize = 128;
-
-// The room in which an answer stands until it is written: the bytes of the longest.
-const ROOM: usize = district::MOST_BYTES;
 
 // How far the talk is: the input goes on, it has ended, or a read or a write has failed.
 #[derive(Clone, Copy)]
@@ -50,7 +46,8 @@ enum Stage {
 }
 
 // Where the talk stands: the reader of the file; the bytes of the chunk that are read and not yet looked at, from `from` up to
-// `got`; the bytes of the room that are not yet written, from `done` up to `written`; and the stage.
+// `got`; the bytes of the room that are not yet written, from `done` up to `written`; and the stage. These are counts and no
+// slices: a slice that is kept from one call to the next would lend the chunk and the room, which each read and answer overwrites.
 #[derive(Clone, Copy)]
 struct Speaker {
     reader: Reader,
@@ -82,39 +79,29 @@ enum Did {
 }
 
 // The talk before anything is read: the file may have many queries, and its first line is line 1.
+#[tactic(auto, unfolding(crate::specs::Speaker::start_speaker))]
 fn begin() -> Speaker
     ensures { result ≡ start_speaker }
 {
-    let reader = district::start(false, 1);
-    let stage = Stage::Listening;
     Speaker {
-        reader,
+        reader: district::start(false, 1),
         from: 0,
         got: 0,
         done: 0,
         written: 0,
-        stage,
+        stage: Stage::Listening,
     }
 }
 
 // What is owed is written before anything else. Then the next bytes are read, unless there is nothing more to hear.
+#[tactic(auto, using(crate::specs::SpeakerLaws::asks_owing, crate::specs::SpeakerLaws::asks_paid))]
 fn asks(speaker: Speaker) -> Ask
     ensures { AsksAs speaker result }
 {
-    if speaker.done < speaker.written {
-        return Ask::Write;
-    }
-    let reader = speaker.reader;
-    let stage = speaker.stage;
-    match stage {
-        Stage::Listening => {
-            if reader.going {
-                return Ask::Read;
-            }
-            Ask::Stop
-        }
-        Stage::AllHeard => Ask::Stop,
-        Stage::CutShort => Ask::Stop,
+    match speaker.stage {
+        _ if speaker.done < speaker.written => Ask::Write,
+        Stage::Listening if speaker.reader.going => Ask::Read,
+        _ => Ask::Stop,
     }
 }
 
@@ -123,22 +110,19 @@ fn owed(speaker: Speaker, room: &[u8]) -> &[u8]
     requires { OwedWithin speaker room.now }
     ensures { result.now ≡ slice speaker.done speaker.written room.now }
 {
-    let done = speaker.done;
-    let written = speaker.written;
-    &room[done..written]
+    &room[speaker.done..speaker.written]
 }
 
 // Why a call moved nothing, by the system's number of the error.
+#[tactic(auto, using(crate::specs::SpeakerLaws::unmoved_interrupted, crate::specs::SpeakerLaws::unmoved_later, crate::specs::SpeakerLaws::unmoved_failed))]
 fn unmoved(error: i32) -> Did
     ensures { result ≡ unmoved_by error }
 {
-    if error == INTERRUPTED {
-        return Did::Interrupted;
+    match error {
+        INTERRUPTED => Did::Interrupted,
+        WOULD_WAIT => Did::WouldWait,
+        _ => Did::Failed,
     }
-    if error == WOULD_WAIT {
-        return Did::WouldWait;
-    }
-    Did::Failed
 }
 
 // The system's number of an error, 0 where it has none.
@@ -148,199 +132,149 @@ fn number(error: io::Error) -> i32
     error.raw_os_error().unwrap_or(0)
 }
 
-// What a read did that answered this: 0 is the end of the input.
+// What a read did that answered this: 0 is the end of the input. One function for reads and writes would be handed what 0 means
+// and a closure for the rest, with a contract about that closure, and be no shorter than these two.
+#[tactic(auto, unfolding(crate::specs::Speaker::answer_of))]
 fn reading(answer: io::Result<usize>, chunk: &[u8]) -> Did
     ensures { result ≡ reading_of (moved_of answer) (error_of answer) (length chunk.now) }
 {
     match answer {
         Err(error) => unmoved(number(error)),
-        Ok(got) => {
-            if got == 0 {
-                return Did::Ended;
-            }
-            Did::Came(got.min(chunk.len()))
-        }
+        Ok(0) => Did::Ended,
+        Ok(got) => Did::Came(got.min(chunk.len())),
     }
 }
 
-// What a write did that answered this: one that took nothing is tried again.
+// What a write did that answered this: one that took nothing is tried again. Why it is no one function with `reading`, that says.
+#[tactic(auto, unfolding(crate::specs::Speaker::answer_of))]
 fn writing(answer: io::Result<usize>, part: &[u8]) -> Did
     ensures { result ≡ writing_of (moved_of answer) (error_of answer) (length part.now) }
 {
     match answer {
         Err(error) => unmoved(number(error)),
-        Ok(put) => {
-            if put == 0 {
-                return Did::WouldWait;
-            }
-            Did::Went(put.min(part.len()))
-        }
+        Ok(0) => Did::WouldWait,
+        Ok(put) => Did::Went(put.min(part.len())),
     }
 }
 
 // The end of the input: what it prints is owed.
+#[tactic(auto, using(crate::specs::SpeakerLaws::tells_ended))]
 fn ended(speaker: Speaker, room: &mut [u8]) -> Speaker
     requires { Reached speaker.reader }
     ensures { TellsAs speaker Did.Ended result room.old room.new }
 {
-    let reader = speaker.reader;
-    let written = district::end_of_input(reader, room);
-    let stage = Stage::AllHeard;
+    let written = district::end_of_input(speaker.reader, room);
     Speaker {
-        reader,
-        from: speaker.from,
-        got: speaker.got,
         done: 0,
         written,
-        stage,
+        stage: Stage::AllHeard,
+        ..speaker
     }
 }
 
 // The speaker after what the system did, before anything more is looked at. After a failure nothing is owed, and nothing is left
 // to look at.
+#[tactic(auto, using(crate::specs::SpeakerLaws::tells_came, crate::specs::SpeakerLaws::tells_interrupted, crate::specs::SpeakerLaws::tells_later, crate::specs::SpeakerLaws::tells_failed))]
 fn told(speaker: Speaker, did: Did, room: &mut [u8]) -> Speaker
     requires reached { Reached speaker.reader }
     requires went_within { WentWithin speaker did }
     ensures { TellsAs speaker did result room.old room.new }
 {
-    let reader = speaker.reader;
-    let stage = speaker.stage;
     match did {
         Did::Came(n) => Speaker {
-            reader,
             from: 0,
             got: n,
-            done: speaker.done,
-            written: speaker.written,
-            stage,
+            ..speaker
         },
         Did::Ended => ended(speaker, room),
         Did::Went(n) => Speaker {
-            reader,
-            from: speaker.from,
-            got: speaker.got,
             done: speaker.done + n,
-            written: speaker.written,
-            stage,
+            ..speaker
         },
-        Did::Interrupted => speaker,
-        Did::WouldWait => speaker,
-        Did::Failed => {
-            let failed = Stage::CutShort;
-            Speaker {
-                reader,
-                from: 0,
-                got: 0,
-                done: 0,
-                written: 0,
-                stage: failed,
-            }
-        }
+        Did::Interrupted | Did::WouldWait => speaker,
+        Did::Failed => Speaker {
+            from: 0,
+            got: 0,
+            done: 0,
+            written: 0,
+            stage: Stage::CutShort,
+            ..speaker
+        },
     }
 }
 
 // Whether a byte is looked at: there is one, nothing is owed, and no refusal has ended the file.
-fn looks_on(reader: Reader, from: usize, got: usize, done: usize, written: usize) -> bool
-    ensures { result ≡ looks_on reader from got done written }
+#[tactic(auto, unfolding(crate::specs::Speaker::looks_on))]
+fn looks_on(speaker: Speaker) -> bool
+    ensures { result ≡ looks_on speaker.reader speaker.from speaker.got speaker.done speaker.written }
 {
-    if from < got {
-        if done == written {
-            return reader.going;
-        }
-    }
-    false
+    speaker.from < speaker.got && speaker.done == speaker.written && speaker.reader.going
 }
 
 // Looks at the bytes that are read, one after the other, up to the one that prints something: those of a line at once, and then
-// the one that ends it. Where something is owed, or a refusal has ended the file, no byte is looked at.
+// the one that ends it. Where something is owed, or a refusal has ended the file, no byte is looked at. The bytes are counted by
+// the speaker and not by an iterator, since the next call goes on from there.
+#[tactic(auto, using(crate::specs::SpeakerLaws::looks_on_more, crate::specs::SpeakerLaws::held_fit, crate::specs::SpeakerLaws::held_on))]
 fn look(
-    speaker: Speaker,
+    mut speaker: Speaker,
     chunk: &[u8],
-    line: &mut [u8],
-    tails: &mut [u16],
-    heads: &mut [u16],
-    weights: &mut [u32],
-    out_arcs: &mut [u16],
-    out_begins: &mut [u16],
-    in_arcs: &mut [u16],
-    in_begins: &mut [u16],
-    forward: &mut [i32],
-    backward: &mut [i32],
+    lists: &mut FileLists,
+    index: &mut IndexLists<&mut [u16]>,
     room: &mut [u8],
 ) -> Speaker
-    requires { Sits speaker (lists line.old tails.old heads.old weights.old (index out_arcs.old out_begins.old in_arcs.old in_begins.old) forward.old backward.old) chunk.now room.old }
-    ensures { StandsFor (talk_looked (talk_of speaker (lists line.old tails.old heads.old weights.old (index out_arcs.old out_begins.old in_arcs.old in_begins.old) forward.old backward.old) chunk.now room.old)) result (lists line.new tails.new heads.new weights.new (index out_arcs.new out_begins.new in_arcs.new in_begins.new) forward.new backward.new) chunk.now room.new }
+    requires { Sits speaker (lists_held lists.old index.old) chunk.now room.old }
+    ensures stands { StandsFor
+        (talk_looked (talk_of speaker (lists_held lists.old index.old) chunk.now room.old))
+        result
+        (lists_held lists.new index.new)
+        chunk.now
+        room.new }
+    ensures same_lists { SameFileLists lists.old lists.new }
+    ensures same_index { SameIndex index.old index.new }
 {
-    let mut reader = speaker.reader;
-    let mut from = speaker.from;
-    let got = speaker.got;
-    let mut done = speaker.done;
-    let mut written = speaker.written;
-    while looks_on(reader, from, got, done, written) {
-        let held = district::hold(reader, &chunk[from..got], line);
-        reader.held = reader.held + held;
-        from += held;
-        if from == got {
+    while looks_on(speaker) {
+        let bytes = &chunk[speaker.from..speaker.got];
+        let held = district::hold(speaker.reader, bytes, lists.line);
+        speaker.reader.held += held;
+        speaker.from += held;
+        if speaker.from == speaker.got {
             continue;
         }
-        let step = district::take_byte(
-            reader,
-            chunk[from],
-            line,
-            tails,
-            heads,
-            weights,
-            out_arcs,
-            out_begins,
-            in_arcs,
-            in_begins,
-            forward,
-            backward,
-            room,
-        );
-        reader = step.reader;
-        from += 1;
-        done = 0;
-        written = step.written;
+        let taken = district::take_byte(speaker.reader, chunk[speaker.from], lists, index, room);
+        speaker = Speaker {
+            reader: taken.reader,
+            from: speaker.from + 1,
+            done: 0,
+            written: taken.written,
+            ..speaker
+        };
     }
-    let stage = speaker.stage;
-    Speaker {
-        reader,
-        from,
-        got,
-        done,
-        written,
-        stage,
-    }
+    speaker
 }
 
 // The speaker after what the system did.
 fn after(
     speaker: Speaker,
     did: Did,
-    chunk: &[u8; CHUNK],
-    line: &mut [u8; DIGITS],
-    tails: &mut [u16; ARCS],
-    heads: &mut [u16; ARCS],
-    weights: &mut [u32; ARCS],
-    out_arcs: &mut [u16; ARCS],
-    out_begins: &mut [u16; BEGINS],
-    in_arcs: &mut [u16; ARCS],
-    in_begins: &mut [u16; BEGINS],
-    forward: &mut [i32; NODES],
-    backward: &mut [i32; NODES],
-    room: &mut [u8; ROOM],
+    chunk: &[u8],
+    lists: &mut FileLists,
+    index: &mut IndexLists<&mut [u16]>,
+    room: &mut [u8],
 ) -> Speaker
-    requires sits { Sits speaker (lists line.old tails.old heads.old weights.old (index out_arcs.old out_begins.old in_arcs.old in_begins.old) forward.old backward.old) chunk.now room.old }
+    requires sits { Sits speaker (lists_held lists.old index.old) chunk.now room.old }
     requires came_within { CameWithin did (length chunk.now) }
     requires went_within { WentWithin speaker did }
-    ensures { StandsFor (talk_after (talk_of speaker (lists line.old tails.old heads.old weights.old (index out_arcs.old out_begins.old in_arcs.old in_begins.old) forward.old backward.old) chunk.now room.old) (event_of did chunk.now)) result (lists line.new tails.new heads.new weights.new (index out_arcs.new out_begins.new in_arcs.new in_begins.new) forward.new backward.new) chunk.now room.new }
+    ensures stands { StandsFor
+        (talk_after (talk_of speaker (lists_held lists.old index.old) chunk.now room.old) (event_of did chunk.now))
+        result
+        (lists_held lists.new index.new)
+        chunk.now
+        room.new }
+    ensures same_lists { SameFileLists lists.old lists.new }
+    ensures same_index { SameIndex index.old index.new }
 {
     let next = told(speaker, did, room);
-    look(
-        next, chunk, line, tails, heads, weights, out_arcs, out_begins, in_arcs, in_begins,
-        forward, backward, room,
-    )
+    look(next, chunk, lists, index, room)
 }
 
 // Waits for a thousandth of a second.
@@ -368,17 +302,15 @@ fn fail(rt: &impl Eprint, words: &str, error: io::Error) {
 // A call that failed is told on standard error, with the system's reason. One that would have had to wait is made again after a
 // pause.
 fn tell<R: Eprint + Clock>(rt: &R, did: Did, words: &str, answer: io::Result<usize>) {
-    if let Did::Failed = did {
-        if let Err(error) = answer {
-            fail(rt, words, error);
-        }
-    }
-    if let Did::WouldWait = did {
-        pause(rt);
+    match (did, answer) {
+        (Did::Failed, Err(error)) => fail(rt, words, error),
+        (Did::WouldWait, _) => pause(rt),
+        _ => {}
     }
 }
 
-// Reads once.
+// Reads once. It differs from `say` in the call, in what the answer means and in the words; what is the same is `tell`.
+#[tactic(auto, using(crate::specs::SpeakerLaws::reads))]
 fn hear<R: Eprint + Clock, I: Read>(rt: &R, input: &mut I, chunk: &mut [u8]) -> Did
     ensures { ReadDid (length chunk.new) result }
 {
@@ -393,7 +325,8 @@ fn hear<R: Eprint + Clock, I: Read>(rt: &R, input: &mut I, chunk: &mut [u8]) -> 
     did
 }
 
-// Writes once.
+// Writes once. It differs from `hear` in the call, in what the answer means and in the words; what is the same is `tell`.
+#[tactic(auto, using(crate::specs::SpeakerLaws::writes))]
 fn say<R: Eprint + Clock, O: Write>(rt: &R, output: &mut O, part: &[u8]) -> Did
     ensures { WriteDid (length part.now) result }
 {
@@ -408,15 +341,15 @@ fn say<R: Eprint + Clock, O: Write>(rt: &R, output: &mut O, part: &[u8]) -> Did
     did
 }
 
-// Asks the system for what the talk asks. Where that is to stop, nothing happens.
+// Asks the system for what the talk asks. Where that is to stop, nothing happens. The first three parameters are the system.
 fn ask_system<R: Eprint + Clock, I: Read, O: Write>(
     rt: &R,
     input: &mut I,
     output: &mut O,
     ask: Ask,
     speaker: Speaker,
-    chunk: &mut [u8; CHUNK],
-    room: &[u8; ROOM],
+    chunk: &mut [u8],
+    room: &[u8],
 ) -> Did
     requires { OwedWithin speaker room.now }
     ensures { Answers ask speaker result chunk.old chunk.new }
@@ -449,6 +382,7 @@ It takes no arguments. README.md says what a file holds and what the answers mea
 
 // Asks until the talk asks to stop. The language wants a bound on every loop: it is more than can be asked in a thousand years,
 // and were it used up, that would be told.
+#[tactic(auto, using(crate::specs::SpeakerLaws::holds_start))]
 fn main(rt: HostRuntime) {
     if has_argument(&rt) {
         explain(&rt);
@@ -456,21 +390,34 @@ fn main(rt: HostRuntime) {
     }
     let mut input = rt.stdin();
     let mut output = rt.stdout();
-    let mut line = [0u8; DIGITS];
-    let mut tails = [0u16; ARCS];
-    let mut heads = [0u16; ARCS];
-    let mut weights = [0u32; ARCS];
-    let mut out_arcs = [0u16; ARCS];
+    let mut line = [0u8; frames::MOST_DIGITS];
+    let mut tails = [0u16; network::MOST_ARCS];
+    let mut heads = [0u16; network::MOST_ARCS];
+    let mut weights = [0u32; network::MOST_ARCS];
+    let mut out_arcs = [0u16; network::MOST_ARCS];
     let mut out_begins = [0u16; BEGINS];
-    let mut in_arcs = [0u16; ARCS];
+    let mut in_arcs = [0u16; network::MOST_ARCS];
     let mut in_begins = [0u16; BEGINS];
     let mut forward = [0i32; NODES];
     let mut backward = [0i32; NODES];
+    let mut lists = FileLists {
+        line: &mut line,
+        tails: &mut tails,
+        heads: &mut heads,
+        weights: &mut weights,
+        forward: &mut forward,
+        backward: &mut backward,
+    };
+    let mut index = IndexLists {
+        out_arcs: &mut out_arcs[..],
+        out_begins: &mut out_begins[..],
+        in_arcs: &mut in_arcs[..],
+        in_begins: &mut in_begins[..],
+    };
     let mut chunk = [0u8; CHUNK];
-    let mut room = [0u8; ROOM];
+    let mut room = [0u8; district::MOST_BYTES];
     let mut speaker = begin();
-    let mut left = u64::MAX;
-    while left > 0 {
+    for _ in 0..u64::MAX {
         let ask = asks(speaker);
         if let Ask::Stop = ask {
             return;
@@ -484,23 +431,7 @@ fn main(rt: HostRuntime) {
             &mut chunk,
             &room,
         );
-        speaker = after(
-            speaker,
-            did,
-            &chunk,
-            &mut line,
-            &mut tails,
-            &mut heads,
-            &mut weights,
-            &mut out_arcs,
-            &mut out_begins,
-            &mut in_arcs,
-            &mut in_begins,
-            &mut forward,
-            &mut backward,
-            &mut room,
-        );
-        left -= 1;
+        speaker = after(speaker, did, &chunk, &mut lists, &mut index, &mut room);
     }
     let _ = eprintln!(&rt; "routeline: the answers are cut short, the system was asked too often");
 }

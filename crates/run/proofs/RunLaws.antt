@@ -1,17 +1,10 @@
 -- A turn of one side, made on the side's own lists with its arcs turned its way, is the turn that `nba` defines. Proved once,
 -- over the side. And where no more turns are made, the lists stand for the state at the cap. Assumes nothing.
-use mathlib.Core.Path.{◌≡◌, refl, sym, ap, ◌∙◌}
-use mathlib.Core.Bool.{Bool, true, false}
-use mathlib.Core.Logic.{◌≢◌}
-use mathlib.Core.List.{List, [], ◌∷◌}
-use Prim.Native.Nat.{ℕ, zero, suc, ◌+◌, ◌*◌, ◌-◌, ◌%◌, ◌^◌, ◌≤◌, ◌<◌}
-use borrow.Author.Tests.{eq-eqb, ne_eqb}
-use lib.IntN.{ℤ, pos, ◌+ℤ◌}
-use lib.Signed.{mag}
-use lib.ListN.{length, get_or, take, replicate, length-replicate}
-use lib.Seq.{length-take-le}
-use native.Mathlib.Numerals.{add-one}
-use native.Mathlib.Omega.{arith}
+use Rattle.std.specs.Prelude.{◌≡◌, ◌≢◌, refl, true, false, List, [], ◌∷◌, Option, ℕ, zero, suc, ◌+◌, ◌%◌, ◌^◌, ◌≤◌, ◌<◌, ℤ, pos, ◌+ℤ◌, length, get_or, replicate}
+use Rattle.std.specs.Int.Signed.{mag}
+use Rattle.std.proofs.Common.{sym, ap, ◌∙◌, arith, add-one}
+use Rattle.std.proofs.lemmas.Bool.{eq-eqb, ne_eqb}
+use Rattle.std.proofs.lemmas.List.{length-replicate}
 use Rattle.network.specs.CaseSplit.{cases, twice}
 use Rattle.network.specs.Given.{Sound}
 use Rattle.network.specs.Network.{Side, start, end, other, Network, network, arc_count}
@@ -26,13 +19,14 @@ use Rattle.network.specs.SoundLaws.{range_fine}
 use Rattle.nba.specs.Why.StateLaws.{both_sides, half_own, half_theirs}
 use Rattle.nba.proofs.Why.LeastLaws.{LeastAt, Choice, no_node_lem, least_node, choice_is}
 use Rattle.nba.specs.Why.MeasureLaws.{shiftable}
-use Rattle.nba.specs.Why.CodeLaws.{goes_on_by_mark, stays_ended_by_mark}
+use Rattle.nba.specs.Why.Tabled.{Tabled}
+use Rattle.nba.specs.Why.CodeLaws.{beginning_tabled, turn_by_mark_tabled, goes_on_by_mark, stays_ended_by_mark}
 use Rattle.nba.proofs.Why.ByMarkLaws.{same_at}
 use Rattle.nba.proofs.Why.EndLaws.{going_few}
 use Rattle.steps.specs.declared.Candidate.{Candidate}
 use Rattle.steps.specs.Steps.{meant}
-use Rattle.queue.specs.Queue.{QueueOf, BegunQueue, next_in, first_labels, Spacious}
-use Rattle.queue.specs.QueueLaws.{spacious, queue_begins}
+use Rattle.queue.specs.Queue.{BegunQueue, next_in, first_labels}
+use Rattle.queue.specs.QueueLaws.{queue_begins}
 use Rattle.queue.specs.LeastLaws.{next_is_least}
 use Rattle.turn.specs.declared.Progress.{Progress}
 use Rattle.turn.specs.Turn.{Took, took, node_taken, best_in, Ahead, Openable, Matched, Queues}
@@ -45,7 +39,7 @@ use Rattle.index.specs.Index.{Index, way_of, is_built}
 use Rattle.index.specs.IndexedLaws.{right_built}
 use Rattle.index.specs.SidewaysLaws.{sideways, arcs_of_sideways, built_sideways}
 use Rattle.tables.specs.Tables.{Long, FirstTables}
-use Rattle.run.specs.Run.{standing_of, KnowsNext, Floors, Searchable, swapped_of, turn_of, Foreseen, Taking, QueueRoom, Beginning, Begun, FirstProgress, TurnsMade, StoppedAt}
+use Rattle.run.specs.Run.{standing, standing_of, KnowsNext, Floors, Searchable, swapped_of, turn_of, Foreseen, Taking, QueueRoom, Beginning, Begun, FirstProgress, TurnsMade, StoppedAt}
 
 look_sideways : (s : Side) (g : Network) (theirs states : List ℕ) (u : ℕ) (arcs : List ℕ) (r : Reach)
     → look_each_by_mark start (sideways s g) theirs states u arcs r ≡ look_each_by_mark s g theirs states u arcs r
@@ -331,20 +325,8 @@ module _ {q : Query} (sound : Sound q) {i : ℕ} {st : State} {p : Progress} (wa
       let s : st ≡ state_at q cap = way.here ∙ ap (after_turns_by_mark q) n ∙ sym (same_at sound d cap) in
       (s, sym (rw (sym s) (rw (ne_eqb q.start q.end d) o.both)))
 
--- lists that kept their lengths
-kept_long : {n : ℕ} {labels neighbours theirs beyond states labels' neighbours' theirs' beyond' states' : List ℕ} → Long n labels neighbours theirs beyond states
-    → length labels' ≡ length labels → length neighbours' ≡ length neighbours → length theirs' ≡ length theirs → length beyond' ≡ length beyond → length states' ≡ length states
-    → Long n labels' neighbours' theirs' beyond' states'
-kept_long l a b c d e = record {
-  labels_long = a ∙ l.labels_long;
-  neighbours_long = b ∙ l.neighbours_long;
-  theirs_long = c ∙ l.theirs_long;
-  beyond_long = d ∙ l.beyond_long;
-  states_long = e ∙ l.states_long;
-}
-
 -- ---- a side at the beginning
-side_beginning : {q : Query} → Sound q → (s : Side) {list : List ℕ} → QueueRoom q.network.nodes list → Beginning q.network.nodes (potentials s q) (source s q) list
+pub side_beginning : {q : Query} → Sound q → (s : Side) {list : List ℕ} → QueueRoom q.network.nodes list → Beginning q.network.nodes (potentials s q) (source s q) list
 side_beginning sound s room = record {
   few = sound.sized.few_nodes;
   potentials_long = potentials_long sound s;
@@ -353,17 +335,9 @@ side_beginning sound s room = record {
   room = room;
 }
 
--- both sides, with the nodes counted by the forward potentials
-pub sides_beginning : {q : Query} → Sound q → {sq eq : List ℕ} → QueueRoom q.network.nodes sq → QueueRoom q.network.nodes eq
-    → Beginning (length q.forward) q.forward q.start sq × Beginning (length q.forward) q.backward q.end eq
-sides_beginning sound a b = rw sound.sized.forward_long (side_beginning sound start a, side_beginning sound end b)
-
 module _ {n v : ℕ} {p : List ℤ} {before : List ℕ} (b : Beginning n p v before) where
-  pub room_spacious : Spacious before v
-  room_spacious = spacious n v b.room.long b.source_in
-
   -- the queue has the source alone, and what it has as its least is what the side takes first
-  pub side_begun : {list : List ℕ} {z floor : ℤ} (first : Candidate) → z ≡ potential_at p v
+  pub side_begun : {list : List ℕ} {z floor : ℤ} (first : Option Candidate) → z ≡ potential_at p v
       → BegunQueue v z before list
       → floor ≡ potential_at p v
       → meant first ≡ next_in list → Begun n p v list floor first
@@ -379,10 +353,7 @@ module _ {n v : ℕ} {p : List ℤ} {before : List ℕ} (b : Beginning n p v bef
 -- ---- from the beginning to the end
 module _ {q : Query} (sound : Sound q) {sl sn el en states sq eq : List ℕ} {p : Progress}
     (tables : FirstTables q.network.nodes q.start q.end sl sn el en states)
-    (progress : FirstProgress (length q.forward) q.forward q.backward q.start q.end sq eq p) where
-  first : FirstProgress q.network.nodes q.forward q.backward q.start q.end sq eq p
-  first = rw sound.sized.forward_long at progress
-
+    (first : FirstProgress q.network.nodes q.forward q.backward q.start q.end sq eq p) where
   begun : standing_of start sl sn el en states p ≡ at_beginning q
   unfolding at_beginning beginning_half
   begun = rw (tables.start_labels_are, tables.start_neighbours_are, tables.end_labels_are, tables.end_neighbours_are, tables.states_are, first.no_length, first.no_meeting, first.start_begun.floor_is, first.end_begun.floor_is)
@@ -403,7 +374,7 @@ module _ {q : Query} (sound : Sound q) {sl sn el en states sq eq : List ℕ} {p 
   begun_queued = rw (tables.start_labels_are, tables.end_labels_are, tables.states_are) (record { mine = first.start_begun.queue_is; yours = first.end_begun.queue_is })
 
   -- start equal to end: it is over at once
-  pub over_at_once : (cap : ℕ) {s : ℕ} {r : Progress} → s ≡ q.start → q.start ≡ q.end → r.length ≡ 0 → r.meeting ≡ s → r.floor ≡ p.floor → r.beyond ≡ p.beyond → r.own ≡ p.own → r.other ≡ p.other
+  pub over_at_once : (cap : ℕ) {s : ℕ} {r : Progress} → s ≡ q.start → q.start ≡ q.end → r.best.length ≡ 0 → r.best.node ≡ s → r.floor ≡ p.floor → r.beyond ≡ p.beyond → r.own ≡ p.own → r.other ≡ p.other
       → StoppedAt q cap (standing_of start sl sn el en states r) (record { progress = r; over = true })
   unfolding state_at at_once at_beginning candidate
   over_at_once cap {r = r} e h l m f g a b =
@@ -425,63 +396,63 @@ pub record Going (q : Query) (ix : Index) (cap i : ℕ) (sl sn el en states sq e
   pub queued : Queues sl q.forward el q.backward states sq eq
   pub way : TurnsMade q i (standing_of start sl sn el en states p) p
 
--- q' is the query with its nodes counted anew, which are as many
-module _ {q : Query} (q' : Query) (same : q ≡ q') {ix : Index} {sl sn el en states sl' sn' el' en' states' sq' eq' : List ℕ}
-    (l1 : length sl' ≡ length sl) (l2 : length sn' ≡ length sn) (l3 : length el' ≡ length el) (l4 : length en' ≡ length en) (l5 : length states' ≡ length states) where
-  -- before the first turn
-  pub begun_going : (cap : ℕ) {p : Progress} → Searchable q ix → Long q.network.nodes sl sn el en states
-      → FirstTables q.network.nodes q.start q.end sl' sn' el' en' states'
-      → FirstProgress (length q.forward) q.forward q.backward q.start q.end sq' eq' p
-      → Going q' ix cap 0 sl' sn' el' en' states' sq' eq' p
-  begun_going cap asked long tables first =
-      rw (sym same) (record {
-        few = omega arith;
-        asked = asked;
-        long = kept_long long l1 l2 l3 l4 l5;
-        queued = begun_queued asked.sound tables first;
-        way = begun_underway asked.sound tables first;
-      })
+-- the lists that stand for a state have one entry a node if the state's have
+tabled_long : {q : Query} {sl sn el en states : List ℕ} (p : Progress) {st : State} → standing sl sn el en states p ≡ st → Tabled q st → Long q.network.nodes sl sn el en states
+tabled_long p e k =
+    let t = rw (sym e) at k in
+    record {
+      labels_long = t.labels_long start;
+      neighbours_long = t.neighbours_long start;
+      theirs_long = t.labels_long end;
+      beyond_long = t.neighbours_long end;
+      states_long = t.states_long;
+    }
 
+long_tabled : {q : Query} {sl sn el en states : List ℕ} (p : Progress) → Long q.network.nodes sl sn el en states → Tabled q (standing sl sn el en states p)
+long_tabled {q} {sl} {sn} {el} {en} {states} p l = record {
+  labels_long = both_sides (λ s. length (half s (standing sl sn el en states p)).labels ≡ q.network.nodes) start l.labels_long l.theirs_long;
+  neighbours_long = both_sides (λ s. length (half s (standing sl sn el en states p)).neighbours ≡ q.network.nodes) start l.neighbours_long l.beyond_long;
+  states_long = l.states_long;
+}
+
+-- before the first turn
+pub begun_going : {q : Query} {ix : Index} {sl sn el en states sq eq : List ℕ} {p : Progress} (cap : ℕ) → Searchable q ix
+    → FirstTables q.network.nodes q.start q.end sl sn el en states
+    → FirstProgress q.network.nodes q.forward q.backward q.start q.end sq eq p
+    → Going q ix cap 0 sl sn el en states sq eq p
+begun_going {p = p} cap asked tables first =
+    record {
+      few = omega arith;
+      asked = asked;
+      long = tabled_long p (begun asked.sound tables first) (beginning_tabled _);
+      queued = begun_queued asked.sound tables first;
+      way = begun_underway asked.sound tables first;
+    }
+
+module _ {q : Query} {ix : Index} {cap i : ℕ} {sl sn el en states sq eq : List ℕ} {p : Progress} (g : Going q ix cap i sl sn el en states sq eq p)
+    {course : Course} (told : course ≡ course_of (meant p.own) (meant p.other) i cap) where
   -- both sides take a node: after the turn one turn more was made
-  pub going_on : {cap i : ℕ} {sq eq : List ℕ} {p : Progress} → Going q ix cap i sl sn el en states sq eq p
-      → {course : Course} → course ≡ course_of (meant p.own) (meant p.other) i cap → {a b : ℕ} → course ≡ Turn a b
-      → {r : Progress} → standing_of start sl' sn' el' en' states' r ≡ turn_of q i (standing_of start sl sn el en states p)
-      → Foreseen q (standing_of start sl' sn' el' en' states' r) r
+  pub going_on : {a b : ℕ} → course ≡ Turn a b → {sl' sn' el' en' states' sq' eq' : List ℕ} {r : Progress}
+      → standing sl' sn' el' en' states' r ≡ turn_of q i (standing sl sn el en states p)
+      → Foreseen q (standing sl' sn' el' en' states' r) r
       → Queues sl' q.forward el' q.backward states' sq' eq'
-      → Going q' ix cap (i + 1) sl' sn' el' en' states' sq' eq' r
-  going_on {cap} g told c t f queued =
-      rw (sym same) (record {
-        few = omega (arith, within_cap g.asked.sound g.way cap told c);
-        asked = g.asked;
-        long = kept_long g.long l1 l2 l3 l4 l5;
-        queued = queued;
-        way = underway_next g.asked.sound g.way cap told c t f;
-      })
+      → Going q ix cap (i + 1) sl' sn' el' en' states' sq' eq' r
+  going_on c {r = r} t f queued = record {
+    few = omega (arith, within_cap g.asked.sound g.way cap told c);
+    asked = g.asked;
+    long = tabled_long r t (turn_by_mark_tabled (side_of_turn q.pattern i) (long_tabled p g.long));
+    queued = queued;
+    way = underway_next g.asked.sound g.way cap told c t f;
+  }
 
--- no more turns are made, and the search has stopped at the cap: it has ended, or the turns are used up
-module _ {q : Query} (q' : Query) (same : q ≡ q') {ix : Index} {cap i : ℕ} {sl sn el en states sq eq : List ℕ} {p : Progress}
-    (g : Going q ix cap i sl sn el en states sq eq p) (apart : q'.start ≢ q'.end) {course : Course} (told : course ≡ course_of (meant p.own) (meant p.other) i cap) where
-  pub stops_ended : course ≡ Ended → StoppedAt q' cap (standing_of start sl sn el en states p) (record { progress = p; over = true })
-  stops_ended c =
-      rw (sym same) (let s = stopped_ended g.asked.sound g.way cap told (rw (sym same) at apart) g.few c in
-      record { here = s.0; foreseen = g.way.foreseen; whether_over = s.1; floors = floors_of g.asked.sound g.way refl refl })
+  -- no more turns are made, and the search has stopped at the cap: it has ended, or the turns are used up
+  module _ (apart : q.start ≢ q.end) where
+    pub stops_ended : course ≡ Ended → StoppedAt q cap (standing sl sn el en states p) (record { progress = p; over = true })
+    stops_ended c =
+        let s = stopped_ended g.asked.sound g.way cap told apart g.few c in
+        record { here = s.0; foreseen = g.way.foreseen; whether_over = s.1; floors = floors_of g.asked.sound g.way refl refl }
 
-  pub stops_used_up : course ≡ UsedUp → {over : Bool} → over ≡ false → StoppedAt q' cap (standing_of start sl sn el en states p) (record { progress = p; over = over })
-  stops_used_up c e =
-      rw (sym same, e) (let s = stopped_used_up g.asked.sound g.way cap told (rw (sym same) at apart) g.few c in
-      record { here = s.0; foreseen = g.way.foreseen; whether_over = s.1; floors = floors_of g.asked.sound g.way refl refl })
-
--- ---- room for a queue
-abbrev pub zeroes : ℕ → List ℕ
-zeroes long = replicate long 0
-
--- the first entries of some zeroes are as many as are asked for
-pub zeroes_long : (k long : ℕ) → k ≤ long → k ≡ length (take k (zeroes long))
-zeroes_long k long h = sym (length-take-le k (zeroes long) (rw (length-replicate {A = ℕ} long 0) h))
-
-pub zeroes_room : (n long : ℕ) → 0 < n → 2 * n - 1 ≤ long → QueueRoom n (take (2 * n - 1) (zeroes long))
-zeroes_room n long h k = record { long = omega (arith, zeroes_long (2 * n - 1) long k) }
-
--- a queue of n nodes is as long as any list with room for one
-pub queue_kept : {n : ℕ} {labels states list lent : List ℕ} {p : List ℤ} → QueueOf labels states p list → length states ≡ n → QueueRoom n lent → length list ≡ length lent
-queue_kept q e room = omega (arith, q.tournament.long, q.long, room.long)
+    pub stops_used_up : course ≡ UsedUp → StoppedAt q cap (standing sl sn el en states p) (record { progress = p; over = false })
+    stops_used_up c =
+        let s = stopped_used_up g.asked.sound g.way cap told apart g.few c in
+        record { here = s.0; foreseen = g.way.foreseen; whether_over = s.1; floors = floors_of g.asked.sound g.way refl refl }

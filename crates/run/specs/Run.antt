@@ -1,6 +1,6 @@
 -- The turns of a search (docs/RULES.md, "The search, turn by turn"), one after the other, as the code sees them: the lent lists
 -- and the progress stand for a state of the search by marks, which `nba` proves to be the search. Assumes nothing.
-use Rattle.std.specs.Prelude.{◌≡◌, false, List, ℕ, ◌+◌, ◌<◌, ◌≤◌, ◌^◌, ℤ, length, replicate}
+use Rattle.std.specs.Prelude.{◌≡◌, false, List, ℕ, ◌+◌, ◌<◌, ◌≤◌, ◌^◌, ℤ, length, replicate, Option}
 use Rattle.std.specs.Int.Signed.{mag}
 use Rattle.network.specs.Given.{Sound}
 use Rattle.network.specs.Network.{Side, start, end, other, most_nodes}
@@ -21,7 +21,7 @@ use Rattle.run.specs.declared.Stop.{Stop}
 abbrev pub standing_of : Side → List ℕ → List ℕ → List ℕ → List ℕ → List ℕ → Progress → State
 standing_of s labels neighbours theirs beyond states p =
     state s (record { labels = labels; neighbours = neighbours; floor = p.floor })
-    (record { labels = theirs; neighbours = beyond; floor = p.beyond }) states p.length p.meeting
+    (record { labels = theirs; neighbours = beyond; floor = p.beyond }) states p.best.length p.best.node
 
 -- the same seen from the start side, as the search holds it
 abbrev pub standing : List ℕ → List ℕ → List ℕ → List ℕ → List ℕ → Progress → State
@@ -39,7 +39,7 @@ pub record Floors (p : Progress) : Type 0 where
 
 -- the progress seen from the other side
 abbrev pub swapped_of : Progress → Progress
-swapped_of p = record { length = p.length; meeting = p.meeting; floor = p.beyond; beyond = p.floor; own = p.other; other = p.own }
+swapped_of p = record { best = p.best; floor = p.beyond; beyond = p.floor; own = p.other; other = p.own }
 
 -- turn number i, of the side that the repeated pattern names
 abbrev pub turn_of : Query → ℕ → State → State
@@ -76,15 +76,15 @@ pub record Beginning (n : ℕ) (p : List ℤ) (v : ℕ) (list : List ℕ) : Type
 
 -- a side at the beginning of a search over n nodes: the list is its queue, its floor is its source's potential, and what it takes
 -- first is known
-pub record Begun (n : ℕ) (p : List ℤ) (v : ℕ) (list : List ℕ) (floor : ℤ) (first : Candidate) : Type 0 where
+pub record Begun (n : ℕ) (p : List ℤ) (v : ℕ) (list : List ℕ) (floor : ℤ) (first : Option Candidate) : Type 0 where
   pub queue_is : QueueOf (first_labels n v) (replicate n undecided) p list
   pub floor_is : floor ≡ potential_at p v
   pub first_is : meant first ≡ least_below (first_labels n v) (replicate n undecided) p n
 
 -- both sides at the beginning, when there is no best length
 pub record FirstProgress (n : ℕ) (forward backward : List ℤ) (s e : ℕ) (start_queue end_queue : List ℕ) (p : Progress) : Type 0 where
-  pub no_length : p.length ≡ missing
-  pub no_meeting : p.meeting ≡ no_node
+  pub no_length : p.best.length ≡ missing
+  pub no_meeting : p.best.node ≡ no_node
   pub start_begun : Begun n forward s start_queue p.floor p.own
   pub end_begun : Begun n backward e end_queue p.beyond p.other
 

@@ -1,6 +1,6 @@
 -- What is answered where a search stopped (docs/RULES.md, "The end of a search" and "Capped queries"), as the code reads it off the
 -- tables, and what a search leaves in work lists with exactly one entry a node. Assumes nothing.
-use Rattle.std.specs.Prelude.{◌≡◌, cond, List, [], ℕ, ◌<◌, ◌≤◌, ℤ, ◌-ℤ◌, length}
+use Rattle.std.specs.Prelude.{◌≡◌, cond, List, [], ℕ, ◌<◌, ◌≤◌, ◌-ℤ◌, length}
 use Rattle.network.specs.declared.Answer.{Answer}
 use Rattle.network.specs.Network.{most_nodes}
 use Rattle.network.specs.Potential.{potential_at}
@@ -15,27 +15,27 @@ use Rattle.run.specs.declared.Stop.{Stop}
 use Rattle.run.specs.Run.{Floors}
 use Rattle.search.specs.Promise.{LentLists, shown_path}
 
--- what is answered where a search stopped so, read off its tables, and the path that is shown
-unfoldable pub answer_read : List ℤ → List ℤ → ℕ → ℕ → List ℕ → List ℕ → List ℕ → Stop → Answer
-answer_read forward backward s e sn en states r =
+-- what is answered to a query whose search stopped so, read off its tables, and the path that is shown
+unfoldable pub answer_read : Query → List ℕ → List ℕ → List ℕ → Stop → Answer
+answer_read q sn en states r =
     let p = r.progress in
-    cond (present p.length)
-    (with_length r.over p.length
-    (excess_over p.length (p.floor -ℤ potential_at forward e) (p.beyond -ℤ potential_at backward s))
-    (length (path_through sn en s e p.meeting))
+    cond (present p.best.length)
+    (with_length r.over p.best.length
+    (excess_over p.best.length (p.floor -ℤ potential_at q.forward q.end) (p.beyond -ℤ potential_at q.backward q.start))
+    (length (path_through sn en q.start q.end p.best.node))
     (figures_in states))
     (without_length r.over (figures_in states))
 
-unfoldable pub path_read : ℕ → ℕ → List ℕ → List ℕ → Stop → List ℕ
-path_read s e sn en r = cond (present r.progress.length) (path_through sn en s e r.progress.meeting) []
+unfoldable pub path_read : Query → List ℕ → List ℕ → Stop → List ℕ
+path_read q sn en r = cond (present r.progress.best.length) (path_through sn en q.start q.end r.progress.best.node) []
 
 -- what reading it off asks: start and end have potentials, the floors are far within 64 bits, and a path has room
-pub record ToBeAnswered (forward backward : List ℤ) (s e : ℕ) (sn en states path : List ℕ) (r : Stop) : Type 0 where
+pub record ToBeAnswered (q : Query) (sn en states path : List ℕ) (r : Stop) : Type 0 where
   pub few : length states ≤ most_nodes
-  pub end_in : e < length forward
-  pub start_in : s < length backward
+  pub end_in : q.end < length q.forward
+  pub start_in : q.start < length q.backward
   pub floors : Floors r.progress
-  pub room : r.progress.length < missing → PathRoom path sn en s e r.progress.meeting
+  pub room : r.progress.best.length < missing → PathRoom path sn en q.start q.end r.progress.best.node
 
 -- the lists are the tables of a state
 pub record Filled (st : State) (sl sn el en marks : List ℕ) : Type 0 where

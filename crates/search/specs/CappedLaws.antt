@@ -1,14 +1,13 @@
 -- What is demanded at a cap follows from what a query with a cap leaves, by the theorems of `nba`: a search that ended is one
 -- without a cap, and the others are honest and never taken back. What such a query leaves is one thing only, and without a cap it
 -- is what a query leaves at as many turns as there are nodes. Assumes nothing.
-use Rattle.std.specs.Prelude.{◌≡◌, refl, false, ℕ, ◌≤◌, take}
+use Rattle.std.specs.Prelude.{◌≡◌, refl, false, ℕ, ◌≤◌, take, Ok, Err}
 use Rattle.std.proofs.Common.{sym, ap, ◌∙◌, arith}
 use Rattle.network.specs.declared.Answer.{Answer}
 use Rattle.network.specs.declared.Answer.TheVariants.{Route, NoRoute, Refused, Provisional}
 use Rattle.network.specs.declared.Cause.{Cause}
 use Rattle.network.specs.declared.Figures.{Figures}
-use Rattle.network.specs.declared.Verdict.{Verdict}
-use Rattle.network.specs.declared.Verdict.TheVariants.{Accepted, Refused as Refusal}
+use Rattle.network.specs.Verdict.{Verdict}
 use Rattle.network.specs.Given.{Sound}
 use Rattle.network.specs.Query.{Query}
 use Rattle.nba.specs.Search.{state_at}
@@ -41,15 +40,15 @@ unfolding queried_at answer_to_at
 capped_query_answers q ix cap l long right = by (indexed_verdict q ix (lengths l)) ∙ ap (λ v. refused_or v (found_at q cap)) (indexed_same q ix (lengths l) long right)
   where
     by : (v : Verdict) → (verdict_leaves v l (search_leaves_at q cap l)).answer ≡ refused_or v (found_at q cap)
-    by Accepted = refl
-    by (Refusal c) = refl
+    by (Ok _) = refl
+    by (Err c) = refl
 
 -- ---- the two cases of a verdict
-pub refused_left : (q : Query) (ix : Index) (cap : ℕ) (l : LentLists) {c : Cause} → indexed_verdict q ix (lengths l) ≡ Refusal c → queried_at q ix cap l ≡ left (Refused c) l
+pub refused_left : (q : Query) (ix : Index) (cap : ℕ) (l : LentLists) {c : Cause} → indexed_verdict q ix (lengths l) ≡ Err c → queried_at q ix cap l ≡ left (Refused c) l
 unfolding queried_at
 refused_left q ix cap l e = rw e
 
-pub accepted_left : (q : Query) (ix : Index) (cap : ℕ) (l : LentLists) → indexed_verdict q ix (lengths l) ≡ Accepted → queried_at q ix cap l ≡ search_leaves_at q cap l
+pub accepted_left : (q : Query) (ix : Index) (cap : ℕ) (l : LentLists) → indexed_verdict q ix (lengths l) ≡ Ok tt → queried_at q ix cap l ≡ search_leaves_at q cap l
 unfolding queried_at
 accepted_left q ix cap l e = rw e
 
@@ -105,7 +104,7 @@ module _ (q : Query) (ix : Index) (cap : ℕ) (before after : LentLists) (r : An
   by_the_verdict = e
 
   -- ---- an answer of the search
-  accepted : {f : Figures} → ShowsFigures r f → indexed_verdict q ix (lengths before) ≡ Accepted
+  accepted : {f : Figures} → ShowsFigures r f → indexed_verdict q ix (lengths before) ≡ Ok tt
   accepted h = accepted_if q ix before after r (search_leaves_at q cap before) never by_the_verdict (λ c. no_refusal h)
 
   sound : {f : Figures} → ShowsFigures r f → Sound q

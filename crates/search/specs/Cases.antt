@@ -2,12 +2,11 @@
 -- writes beyond the node count or beyond the path, who shows a path where there is no route or nothing yet, who makes a turn after
 -- the last of a cap, who searches over a wrong index, and who writes and then refuses, leaves something else. One list, and one
 -- proof over it by computation. Assumes nothing.
-use Rattle.std.specs.Prelude.{◌≡◌, refl, List, [], ◌∷◌, map, ℕ, pos, replicate}
+use Rattle.std.specs.Prelude.{◌≡◌, refl, List, [], ◌∷◌, map, ℕ, pos, replicate, None, Some}
 use Rattle.network.specs.declared.Figures.{Figures}
 use Rattle.network.specs.declared.Cause.TheVariants.{Pattern, Room, WrongIndex}
 use Rattle.network.specs.declared.Answer.TheVariants.{Route, NoRoute, Refused, Provisional, Undecided}
-use Rattle.network.specs.declared.Cap.{Cap}
-use Rattle.network.specs.declared.Cap.TheVariants.{Uncapped, AtMost}
+use Rattle.network.specs.Cap.{Cap}
 use Rattle.network.specs.Network.{network, is_arc}
 use Rattle.network.specs.Potential.{keeps_rule}
 use Rattle.network.specs.Query.{Query, query, side_of_turn}
@@ -42,10 +41,10 @@ abbrev trip_under : ℕ → ℕ → List ℕ → Cap → Left → LeavingCase
 trip_under = trip_over (index (0 ∷ 9 ∷ []) (0 ∷ 1 ∷ 1 ∷ 9 ∷ []) (0 ∷ 9 ∷ []) (0 ∷ 0 ∷ 1 ∷ 9 ∷ []))
 
 abbrev trip : ℕ → ℕ → List ℕ → Left → LeavingCase
-trip s e p = trip_under s e p Uncapped
+trip s e p = trip_under s e p None
 
 abbrev trip_at : ℕ → ℕ → List ℕ → ℕ → Left → LeavingCase
-trip_at s e p n = trip_under s e p (AtMost n)
+trip_at s e p n = trip_under s e p (Some n)
 
 -- turns, nodes opened by each side, nodes rejected
 abbrev counts : ℕ → ℕ → ℕ → ℕ → Figures
@@ -80,14 +79,14 @@ leaving_cases =
     ∷ trip_at 1 1 (0 ∷ []) 0 (left (Route 0 1 (counts 0 0 0 0)) (lent_lists (over missing 0) (over no_node no_node) (over missing 0) (over no_node no_node) (over 0 0) (over 1 8)))
     ∷ trip_at 0 1 [] 0 (left (Refused Pattern) (lent_lists old old old old old old))
     -- the two ways of the index exchanged, and a list of it that is one entry too short: nothing changes
-    ∷ trip_over (index (0 ∷ []) (0 ∷ 0 ∷ 1 ∷ []) (0 ∷ []) (0 ∷ 1 ∷ 1 ∷ [])) 0 1 (0 ∷ []) Uncapped (left (Refused WrongIndex) (lent_lists old old old old old old))
-    ∷ trip_over (index (0 ∷ []) (0 ∷ 1 ∷ 1 ∷ []) (0 ∷ []) (0 ∷ 0 ∷ [])) 0 1 (0 ∷ []) (AtMost 2) (left (Refused Room) (lent_lists old old old old old old))
+    ∷ trip_over (index (0 ∷ []) (0 ∷ 0 ∷ 1 ∷ []) (0 ∷ []) (0 ∷ 1 ∷ 1 ∷ [])) 0 1 (0 ∷ []) None (left (Refused WrongIndex) (lent_lists old old old old old old))
+    ∷ trip_over (index (0 ∷ []) (0 ∷ 1 ∷ 1 ∷ []) (0 ∷ []) (0 ∷ 0 ∷ [])) 0 1 (0 ∷ []) (Some 2) (left (Refused Room) (lent_lists old old old old old old))
     ∷ []
 
 -- ---- what is left
 abbrev left_under : Cap → Query → Index → LentLists → Left
-left_under Uncapped q ix l = queried q ix l
-left_under (AtMost n) q ix l = queried_at q ix n l
+left_under None q ix l = queried q ix l
+left_under (Some n) q ix l = queried_at q ix n l
 
 unfoldable pub leaving : LeavingCase → LeavingCase
 leaving c = record {

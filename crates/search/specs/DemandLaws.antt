@@ -1,7 +1,7 @@
 -- The demands follow from what a query leaves, by the theorems of `nba` and the laws of the refusal table; what a query leaves
 -- is one thing only; and over the index that its arcs build its answer is the one of which the cases (docs/RULES.md, "Cases") are
 -- proved. Assumes nothing.
-use Rattle.std.specs.Prelude.{◌≡◌, refl, Bool, true, false, cond, List, ℕ, ◌<◌, length}
+use Rattle.std.specs.Prelude.{◌≡◌, refl, Bool, true, false, cond, List, ℕ, ◌<◌, length, Ok, Err}
 use Rattle.std.proofs.Common.{sym, ◌∙◌, arith, take_at, lt-ltb}
 use Rattle.std.proofs.Math.Path.{ap}
 use Rattle.std.proofs.Math.ListN.{get_or, take, get_or-append}
@@ -9,8 +9,7 @@ use Rattle.network.specs.declared.Answer.{Answer}
 use Rattle.network.specs.declared.Answer.TheVariants.{Route, NoRoute, Refused}
 use Rattle.network.specs.declared.Cause.{Cause}
 use Rattle.network.specs.declared.Figures.{Figures}
-use Rattle.network.specs.declared.Verdict.{Verdict}
-use Rattle.network.specs.declared.Verdict.TheVariants.{Accepted, Refused as Refusal}
+use Rattle.network.specs.Verdict.{Verdict}
 use Rattle.network.specs.declared.Lent.{Lent}
 use Rattle.network.specs.CaseSplit.{cases, true≢false}
 use Rattle.network.specs.Given.{Refuses, by_cause, Sound}
@@ -50,21 +49,21 @@ unfolding queried answer_to
 query_answers q ix l long right = by (indexed_verdict q ix (lengths l)) ∙ ap (λ v. refused_or v (found q)) (indexed_same q ix (lengths l) long right)
   where
     by : (v : Verdict) → (verdict_leaves v l (search_leaves q l)).answer ≡ refused_or v (found q)
-    by Accepted = refl
-    by (Refusal c) = refl
+    by (Ok _) = refl
+    by (Err c) = refl
 
 -- and where it is accepted, the search's
-accepted_answer : (q : Query) (ix : Index) (l : LentLists) → indexed_verdict q ix (lengths l) ≡ Accepted → (queried q ix l).answer ≡ found q
+accepted_answer : (q : Query) (ix : Index) (l : LentLists) → indexed_verdict q ix (lengths l) ≡ Ok tt → (queried q ix l).answer ≡ found q
 unfolding queried
 accepted_answer q ix l v = rw v
 
 -- what is accepted is sound
-pub indexed_sound : (q : Query) (ix : Index) (l : Lent) → indexed_verdict q ix l ≡ Accepted → Sound q
+pub indexed_sound : (q : Query) (ix : Index) (l : Lent) → indexed_verdict q ix l ≡ Ok tt → Sound q
 indexed_sound q ix l v = accepted_sound q l (accepted_plain q ix l v)
 
 -- a query that is accepted is accepted with any pattern that number 5 does not refuse: no other row looks at the pattern
-pub pattern_accepted : (q : Query) (ix : Index) (l : Lent) (p : List ℕ) → indexed_verdict q ix l ≡ Accepted → bad_pattern p ≡ false
-    → indexed_verdict (with_pattern p q) ix l ≡ Accepted
+pub pattern_accepted : (q : Query) (ix : Index) (l : Lent) (p : List ℕ) → indexed_verdict q ix l ≡ Ok tt → bad_pattern p ≡ false
+    → indexed_verdict (with_pattern p q) ix l ≡ Ok tt
 pattern_accepted q ix l p v fine = (query_accepted (with_pattern p q) ix l).1 (λ r n place. by)
   where
     none : {r n place : ℕ} → QueryCondition q ix l r n place → ⊥
@@ -100,30 +99,30 @@ figures_found q = by (present (end_state q).best)
     by true of_a_route = refl
     by false of_no_route = refl
 
-pub by_verdict : {P : Type 0} (v : Verdict) → (v ≡ Accepted → P) → ((c : Cause) → v ≡ Refusal c → P) → P
-by_verdict Accepted f g = f refl
-by_verdict (Refusal c) f g = g c refl
+pub by_verdict : {P : Type 0} (v : Verdict) → (v ≡ Ok tt → P) → ((c : Cause) → v ≡ Err c → P) → P
+by_verdict (Ok _) f g = f refl
+by_verdict (Err c) f g = g c refl
 
 -- ---- by the verdict, whatever the search leaves that is no refusal
 module _ (q : Query) (ix : Index) (before after : LentLists) (r : Answer) (searched : Left) (never : (c : Cause) → searched.answer ≡ Refused c → ⊥)
     (e : left r after ≡ verdict_leaves (indexed_verdict q ix (lengths before)) before searched) where
-  refused_leaves : {c : Cause} → indexed_verdict q ix (lengths before) ≡ Refusal c → left r after ≡ left (Refused c) before
+  refused_leaves : {c : Cause} → indexed_verdict q ix (lengths before) ≡ Err c → left r after ≡ left (Refused c) before
   refused_leaves v = e ∙ rw v
 
-  pub accepted_leaves : indexed_verdict q ix (lengths before) ≡ Accepted → left r after ≡ searched
+  pub accepted_leaves : indexed_verdict q ix (lengths before) ≡ Ok tt → left r after ≡ searched
   accepted_leaves v = e ∙ rw v
 
-  answer_refused : {c : Cause} → indexed_verdict q ix (lengths before) ≡ Refusal c → r ≡ Refused c
+  answer_refused : {c : Cause} → indexed_verdict q ix (lengths before) ≡ Err c → r ≡ Refused c
   answer_refused v = (same_left (refused_leaves v)).0
 
   -- an answer that is a refusal is the verdict's
-  refusal_given : {c : Cause} → r ≡ Refused c → indexed_verdict q ix (lengths before) ≡ Refusal c
+  refusal_given : {c : Cause} → r ≡ Refused c → indexed_verdict q ix (lengths before) ≡ Err c
   refusal_given {c} h = by_verdict (indexed_verdict q ix (lengths before))
       (λ v. absurd (never c (sym (ap (λ (x : Left). x.answer) (accepted_leaves v)) ∙ h)))
       (λ d v. let same : d ≡ c = let x = answer_refused v in (cc) in rw same at v)
 
   -- an answer that is none was accepted
-  pub accepted_if : ((c : Cause) → r ≡ Refused c → ⊥) → indexed_verdict q ix (lengths before) ≡ Accepted
+  pub accepted_if : ((c : Cause) → r ≡ Refused c → ⊥) → indexed_verdict q ix (lengths before) ≡ Ok tt
   accepted_if f = by_verdict (indexed_verdict q ix (lengths before)) (λ v. v) (λ c v. absurd (f c (answer_refused v)))
 
   -- the number and the place of the answer are those of the verdict
@@ -170,17 +169,17 @@ module _ (q : Query) (ix : Index) (before after : LentLists) (r : Answer) (e : l
   unfolding queried
   by_the_verdict = e
 
-  searched_leaves : indexed_verdict q ix (lengths before) ≡ Accepted → (r ≡ found q) × (after ≡ lists_after q before)
+  searched_leaves : indexed_verdict q ix (lengths before) ≡ Ok tt → (r ≡ found q) × (after ≡ lists_after q before)
   searched_leaves v = same_left (accepted_leaves q ix before after r (search_leaves q before) never by_the_verdict v)
 
-  accepted_unless : ((c : Cause) → r ≡ Refused c → ⊥) → indexed_verdict q ix (lengths before) ≡ Accepted
+  accepted_unless : ((c : Cause) → r ≡ Refused c → ⊥) → indexed_verdict q ix (lengths before) ≡ Ok tt
   accepted_unless = accepted_if q ix before after r (search_leaves q before) never by_the_verdict
 
   -- ---- an answer of the search
-  route_accepted : {l n : ℕ} {f : Figures} → r ≡ Route l n f → indexed_verdict q ix (lengths before) ≡ Accepted
+  route_accepted : {l n : ℕ} {f : Figures} → r ≡ Route l n f → indexed_verdict q ix (lengths before) ≡ Ok tt
   route_accepted h = accepted_unless (λ c i. let z : ◌≡◌ {A = ℕ} 0 1 = cc in omega arith)
 
-  none_accepted : {f : Figures} → r ≡ NoRoute f → indexed_verdict q ix (lengths before) ≡ Accepted
+  none_accepted : {f : Figures} → r ≡ NoRoute f → indexed_verdict q ix (lengths before) ≡ Ok tt
   none_accepted h = accepted_unless (λ c i. let z : ◌≡◌ {A = ℕ} 0 1 = cc in omega arith)
 
   found_route : {l n : ℕ} {f : Figures} → r ≡ Route l n f → found q ≡ Route l n f
@@ -206,22 +205,22 @@ module _ (q : Query) (ix : Index) (before after : LentLists) (r : Answer) (e : l
         a_walk = λ h. joined_walk ((demand_2 (indexed_sound q ix (lengths before) (route_accepted h))).real (found_route h));
       }
 
-  figures_accepted : {f : Figures} → HasFigures r f → indexed_verdict q ix (lengths before) ≡ Accepted
+  figures_accepted : {f : Figures} → HasFigures r f → indexed_verdict q ix (lengths before) ≡ Ok tt
   figures_accepted {f} h = by h refl
     where
-      by : {a : Answer} → HasFigures a f → r ≡ a → indexed_verdict q ix (lengths before) ≡ Accepted
+      by : {a : Answer} → HasFigures a f → r ≡ a → indexed_verdict q ix (lengths before) ≡ Ok tt
       by of_a_route i = route_accepted i
       by of_no_route i = none_accepted i
 
-  sound : indexed_verdict q ix (lengths before) ≡ Accepted → Sound q
+  sound : indexed_verdict q ix (lengths before) ≡ Ok tt → Sound q
   sound v = indexed_sound q ix (lengths before) v
 
   -- the tables are those of the state at the end
-  at_end : indexed_verdict q ix (lengths before) ≡ Accepted → after ≡ lists_after q before
+  at_end : indexed_verdict q ix (lengths before) ≡ Ok tt → after ≡ lists_after q before
   at_end v = (searched_leaves v).1
 
   -- the same query on the same lists with another pattern
-  same_with_pattern : indexed_verdict q ix (lengths before) ≡ Accepted → (p : List ℕ) → bad_pattern p ≡ false
+  same_with_pattern : indexed_verdict q ix (lengths before) ≡ Ok tt → (p : List ℕ) → bad_pattern p ≡ false
       → SameLengthAndVerdict r (queried (with_pattern p q) ix before).answer
   same_with_pattern v p fine =
       let v' = pattern_accepted q ix (lengths before) p v fine in

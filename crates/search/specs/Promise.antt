@@ -1,11 +1,10 @@
 -- What a query leaves (docs/RULES.md, "The end of a search" and "Capped queries"): its answer, and every entry of every lent list.
 -- Assumes nothing.
-use Rattle.std.specs.Prelude.{cond, List, [], ℕ, length}
+use Rattle.std.specs.Prelude.{cond, List, [], ℕ, length, Ok, Err}
 use Rattle.network.specs.declared.Answer.{Answer}
 use Rattle.network.specs.declared.Answer.TheVariants.{Refused}
 use Rattle.network.specs.declared.Lent.{Lent}
-use Rattle.network.specs.declared.Verdict.{Verdict}
-use Rattle.network.specs.declared.Verdict.TheVariants.{Accepted, Refused as Refusal}
+use Rattle.network.specs.Verdict.{Verdict}
 use Rattle.network.specs.Query.{Query}
 use Rattle.nba.specs.State.{State, present}
 use Rattle.nba.specs.Search.{state_at}
@@ -83,8 +82,8 @@ search_leaves_at q cap l = left (found_at q cap) (lists_at q cap l)
 
 -- a refusal leaves all lent lists untouched; an accepted query leaves what its search leaves
 abbrev pub verdict_leaves : Verdict → LentLists → Left → Left
-verdict_leaves (Refusal c) l searched = left (Refused c) l
-verdict_leaves Accepted l searched = searched
+verdict_leaves (Err c) l searched = left (Refused c) l
+verdict_leaves (Ok _) l searched = searched
 
 -- what a query over an index leaves, without a cap and at a cap: the index decides about a refusal, and about nothing else
 unfoldable pub queried : Query → Index → LentLists → Left

@@ -3,77 +3,96 @@
 // on the first entries of the lists, to its end or as far as a cap on its turns. The index is where the arcs of a node are found.
 #![tactic(auto)]
 
-ghost use Rattle.std.specs.Prelude.{◌≡◌, ◌≤◌, length};
-ghost use Rattle.network.specs.Network.{network};
-ghost use Rattle.network.specs.Query.{query as asked};
+ghost use Rattle.std.specs.Prelude.{◌≡◌, ◌≤◌, Ok, length};
+ghost use Rattle.network.specs.Lists.{query_asked};
 ghost use Rattle.network.specs.Front.{at_front};
-ghost use Rattle.index.specs.Index.{index};
+ghost use Rattle.index.specs.Lists.{index_of};
 ghost use Rattle.index.specs.Table.{indexed_verdict};
 ghost use Rattle.tables.specs.Tables.{Long};
-ghost use Rattle.search.specs.Demands.{CappedKept, QueryKept};
-ghost use Rattle.search.specs.Promise.{left, lengths, lent_lists, search_leaves_at};
 ghost use Rattle.run.specs.Run.{Searchable};
+ghost use Rattle.search.specs.Demands.{CappedKept, QueryKept};
+ghost use Rattle.search.specs.Lists.{lists_of, SameWork};
+ghost use Rattle.search.specs.Promise.{left, lengths, lent_lists, search_leaves_at};
 ghost use Rattle.search.specs.Answered.{SearchedInPlace, ToBeAnswered, answer_read, path_read};
 
-use network::{Answer, Lent, Verdict};
+use index::IndexLists;
+use network::{Answer, Lent, QueryLists};
 use run::Stop;
+use tables::SideLists;
+
+// The lists that a caller lends: the labels and the neighbours of each side, the states and the path.
+#[derive(Drop)]
+pub struct Work<'a> {
+    pub start_labels: &'a mut [u32],
+    pub start_neighbours: &'a mut [u16],
+    pub end_labels: &'a mut [u32],
+    pub end_neighbours: &'a mut [u16],
+    pub states: &'a mut [u8],
+    pub path: &'a mut [u16],
+}
+
+impl Work<'_> {
+    // How long they are.
+    fn lent(&self) -> Lent
+        ensures { result ≡ lengths (lists_of self.now) }
+    {
+        Lent {
+            start_labels: self.start_labels.len(),
+            start_neighbours: self.start_neighbours.len(),
+            end_labels: self.end_labels.len(),
+            end_neighbours: self.end_neighbours.len(),
+            states: self.states.len(),
+            path: self.path.len(),
+        }
+    }
+}
 
 // What is answered where a search stopped, read off its tables. With no best length the path list is left alone.
+#[tactic(auto, unfolding(crate::specs::Answered::answer_read, crate::specs::Answered::path_read, network::specs::Front::at_front))]
 fn answered(
-    forward: &[i32],
-    backward: &[i32],
-    start: u16,
-    end: u16,
+    asked: QueryLists,
     start_neighbours: &[u16],
     end_neighbours: &[u16],
     states: &[u8],
     path: &mut [u16],
     stop: Stop,
 ) -> Answer
-    requires { ToBeAnswered forward.now backward.now start end start_neighbours.now end_neighbours.now states.now path.old stop }
-    ensures value { result ≡ answer_read forward.now backward.now start end start_neighbours.now end_neighbours.now states.now stop }
-    ensures path_after { path.new ≡ at_front (path_read start end start_neighbours.now end_neighbours.now stop) path.old }
+    requires { ToBeAnswered (query_asked asked) start_neighbours.now end_neighbours.now states.now path.old stop }
+    ensures value { result ≡ answer_read (query_asked asked.entry) start_neighbours.now end_neighbours.now states.now stop }
+    ensures path_after { path.new ≡ at_front (path_read (query_asked asked.entry) start_neighbours.now end_neighbours.now stop) path.old }
 {
-    let over = stop.over;
     let p = stop.progress;
-    let length = p.length;
+    let length = p.best.length;
     let figures = tables::count_states(states);
     if steps::MISSING <= length {
-        let answer = cap::without_length(over, figures);
-        return answer;
+        return cap::without_length(stop.over, figures);
     }
+    let start = asked.start;
+    let end = asked.end;
     let nodes = tables::write_path(
         path,
         start_neighbours,
         end_neighbours,
         start,
         end,
-        p.meeting,
+        p.best.node,
     );
     let excess = cap::excess(
         length,
         p.floor,
-        forward[end as usize],
+        asked.potentials.forward[end as usize],
         p.beyond,
-        backward[start as usize],
+        asked.potentials.backward[start as usize],
     );
-    cap::with_length(over, length, excess, nodes, figures)
+    cap::with_length(stop.over, length, excess, nodes, figures)
 }
 
 // The search of an accepted query at a cap, on lists with exactly one entry a node and a path list with room for as many.
+// The lists are handed over one by one: a struct of lists cut to size was tried, and the proof did not close, since the check does
+// not see what a list holds that is cut as it goes into a struct.
 fn searched(
-    tails: &[u16],
-    heads: &[u16],
-    weights: &[u32],
-    out_arcs: &[u16],
-    out_begins: &[u16],
-    in_arcs: &[u16],
-    in_begins: &[u16],
-    forward: &[i32],
-    backward: &[i32],
-    start: u16,
-    end: u16,
-    pattern: &[u8],
+    asked: QueryLists,
+    held: IndexLists<&[u16]>,
     cap: u16,
     start_labels: &mut [u32],
     start_neighbours: &mut [u16],
@@ -82,230 +101,83 @@ fn searched(
     states: &mut [u8],
     path: &mut [u16],
 ) -> Answer
-    requires searchable { Searchable (asked (network (length states.old) tails.now heads.now weights.now) forward.now backward.now start end pattern.now) (index out_arcs.now out_begins.now in_arcs.now in_begins.now) }
-    requires long { Long (length states.old) start_labels.old start_neighbours.old end_labels.old end_neighbours.old states.old }
-    requires path_long { length states.old ≤ length path.old }
+    requires searchable { Searchable (query_asked asked) (index_of held) }
+    requires long { Long asked.network.nodes start_labels.old start_neighbours.old end_labels.old end_neighbours.old states.old }
+    requires path_long { asked.network.nodes ≤ length path.old }
     ensures { SearchedInPlace
-        (asked (network (length states.old) tails.now heads.now weights.now) forward.now backward.now start end pattern.now)
+        (query_asked asked.entry)
         cap
         path.old
         result
         (lent_lists start_labels.new start_neighbours.new end_labels.new end_neighbours.new states.new path.new) }
 {
+    let mut start_side = SideLists {
+        labels: start_labels,
+        neighbours: start_neighbours,
+    };
+    let mut end_side = SideLists {
+        labels: end_labels,
+        neighbours: end_neighbours,
+    };
     let stop = run::find(
-        tails,
-        heads,
-        weights,
-        out_arcs,
-        out_begins,
-        in_arcs,
-        in_begins,
-        forward,
-        backward,
-        start,
-        end,
-        pattern,
+        asked,
+        held,
         cap as usize,
-        start_labels,
-        start_neighbours,
-        end_labels,
-        end_neighbours,
+        &mut start_side,
+        &mut end_side,
         states,
     );
-    answered(
-        forward,
-        backward,
-        start,
-        end,
-        start_neighbours,
-        end_neighbours,
-        states,
-        path,
-        stop,
-    )
+    answered(asked, start_neighbours, end_neighbours, states, path, stop)
 }
 
 // The search of a query that is accepted already, at a cap: for a caller that has tested its network once and each trip by itself.
 // What it asks is exactly that the table accepts the query.
+#[tactic(auto, using(crate::proofs::AnswerLaws::searchable_if, crate::proofs::AnswerLaws::room_if))]
 pub fn search_accepted(
-    nodes: u16,
-    tails: &[u16],
-    heads: &[u16],
-    weights: &[u32],
-    out_arcs: &[u16],
-    out_begins: &[u16],
-    in_arcs: &[u16],
-    in_begins: &[u16],
-    forward: &[i32],
-    backward: &[i32],
-    start: u16,
-    end: u16,
-    pattern: &[u8],
+    asked: QueryLists,
+    held: IndexLists<&[u16]>,
     cap: u16,
-    start_labels: &mut [u32],
-    start_neighbours: &mut [u16],
-    end_labels: &mut [u32],
-    end_neighbours: &mut [u16],
-    states: &mut [u8],
-    path: &mut [u16],
+    work: &mut Work,
 ) -> Answer
-    requires { indexed_verdict
-        (asked (network nodes tails.now heads.now weights.now) forward.now backward.now start end pattern.now)
-        (index out_arcs.now out_begins.now in_arcs.now in_begins.now)
-        (lengths (lent_lists start_labels.old start_neighbours.old end_labels.old end_neighbours.old states.old path.old))
-        ≡ Verdict.Accepted }
-    ensures { left result
-        (lent_lists start_labels.new start_neighbours.new end_labels.new end_neighbours.new states.new path.new)
-        ≡ search_leaves_at
-        (asked (network nodes tails.now heads.now weights.now) forward.now backward.now start end pattern.now)
-        cap
-        (lent_lists start_labels.old start_neighbours.old end_labels.old end_neighbours.old states.old path.old) }
+    requires { indexed_verdict (query_asked asked) (index_of held) (lengths (lists_of work.old)) ≡ Ok tt }
+    ensures kept { left result (lists_of work.new) ≡ search_leaves_at (query_asked asked.entry) cap (lists_of work.old) }
+    ensures same { SameWork work.old work.new }
 {
-    let n = nodes as usize;
+    let n = asked.network.nodes as usize;
     searched(
-        tails,
-        heads,
-        weights,
-        out_arcs,
-        out_begins,
-        in_arcs,
-        in_begins,
-        forward,
-        backward,
-        start,
-        end,
-        pattern,
+        asked,
+        held,
         cap,
-        &mut start_labels[..n],
-        &mut start_neighbours[..n],
-        &mut end_labels[..n],
-        &mut end_neighbours[..n],
-        &mut states[..n],
-        path,
+        &mut work.start_labels[..n],
+        &mut work.start_neighbours[..n],
+        &mut work.end_labels[..n],
+        &mut work.end_neighbours[..n],
+        &mut work.states[..n],
+        work.path,
     )
 }
 
 // The query at a cap: tested by the whole table, and searched if it is accepted.
 pub fn capped_query(
-    nodes: u16,
-    tails: &[u16],
-    heads: &[u16],
-    weights: &[u32],
-    out_arcs: &[u16],
-    out_begins: &[u16],
-    in_arcs: &[u16],
-    in_begins: &[u16],
-    forward: &[i32],
-    backward: &[i32],
-    start: u16,
-    end: u16,
-    pattern: &[u8],
+    asked: QueryLists,
+    held: IndexLists<&[u16]>,
     cap: u16,
-    start_labels: &mut [u32],
-    start_neighbours: &mut [u16],
-    end_labels: &mut [u32],
-    end_neighbours: &mut [u16],
-    states: &mut [u8],
-    path: &mut [u16],
+    work: &mut Work,
 ) -> Answer
-    ensures { CappedKept
-        (asked (network nodes tails.now heads.now weights.now) forward.now backward.now start end pattern.now)
-        (index out_arcs.now out_begins.now in_arcs.now in_begins.now)
-        cap
-        (lent_lists start_labels.old start_neighbours.old end_labels.old end_neighbours.old states.old path.old)
-        (lent_lists start_labels.new start_neighbours.new end_labels.new end_neighbours.new states.new path.new)
-        result }
+    ensures kept { CappedKept (query_asked asked.entry) (index_of held.entry) cap (lists_of work.old) (lists_of work.new) result }
+    ensures same { SameWork work.old work.new }
 {
-    let lent = Lent {
-        start_labels: start_labels.len(),
-        start_neighbours: start_neighbours.len(),
-        end_labels: end_labels.len(),
-        end_neighbours: end_neighbours.len(),
-        states: states.len(),
-        path: path.len(),
-    };
-    let verdict = index::check_query(
-        nodes, tails, heads, weights, out_arcs, out_begins, in_arcs, in_begins, forward, backward,
-        start, end, pattern, lent,
-    );
-    match verdict {
-        Verdict::Refused(cause) => Answer::Refused(cause),
-        Verdict::Accepted => {
-            search_accepted(
-                nodes,
-                tails,
-                heads,
-                weights,
-                out_arcs,
-                out_begins,
-                in_arcs,
-                in_begins,
-                forward,
-                backward,
-                start,
-                end,
-                pattern,
-                cap,
-                start_labels,
-                start_neighbours,
-                end_labels,
-                end_neighbours,
-                states,
-                path,
-            )
-        }
+    if let Err(cause) = index::check_query(asked, held, work.lent()) {
+        return Answer::Refused(cause);
     }
+    search_accepted(asked, held, cap, work)
 }
 
 // The query without a cap: no search makes more turns than there are nodes.
-pub fn query(
-    nodes: u16,
-    tails: &[u16],
-    heads: &[u16],
-    weights: &[u32],
-    out_arcs: &[u16],
-    out_begins: &[u16],
-    in_arcs: &[u16],
-    in_begins: &[u16],
-    forward: &[i32],
-    backward: &[i32],
-    start: u16,
-    end: u16,
-    pattern: &[u8],
-    start_labels: &mut [u32],
-    start_neighbours: &mut [u16],
-    end_labels: &mut [u32],
-    end_neighbours: &mut [u16],
-    states: &mut [u8],
-    path: &mut [u16],
-) -> Answer
-    ensures { QueryKept
-        (asked (network nodes tails.now heads.now weights.now) forward.now backward.now start end pattern.now)
-        (index out_arcs.now out_begins.now in_arcs.now in_begins.now)
-        (lent_lists start_labels.old start_neighbours.old end_labels.old end_neighbours.old states.old path.old)
-        (lent_lists start_labels.new start_neighbours.new end_labels.new end_neighbours.new states.new path.new)
-        result }
+#[tactic(auto, using(crate::specs::CappedLaws::capped_query_kept))]
+pub fn query(asked: QueryLists, held: IndexLists<&[u16]>, work: &mut Work) -> Answer
+    ensures kept { QueryKept (query_asked asked.entry) (index_of held.entry) (lists_of work.old) (lists_of work.new) result }
+    ensures same { SameWork work.old work.new }
 {
-    capped_query(
-        nodes,
-        tails,
-        heads,
-        weights,
-        out_arcs,
-        out_begins,
-        in_arcs,
-        in_begins,
-        forward,
-        backward,
-        start,
-        end,
-        pattern,
-        nodes,
-        start_labels,
-        start_neighbours,
-        end_labels,
-        end_neighbours,
-        states,
-        path,
-    )
+    capped_query(asked, held, asked.network.nodes, work)
 }

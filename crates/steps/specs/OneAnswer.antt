@@ -1,22 +1,21 @@
 -- Each public function's contract admits a single answer: whatever two runs on the same input return is the same. Assumes nothing.
-use Rattle.std.specs.Prelude.{◌≡◌, refl, Bool, ℕ, ℤ}
+use Rattle.std.specs.Prelude.{◌≡◌, refl, Bool, ℕ, ℤ, Option, None, Some}
 use Rattle.std.proofs.Common.{sym, ap, ◌∙◌}
 use Rattle.nba.specs.Search.{Chosen, none, node, floor_after}
 use Rattle.steps.specs.declared.Candidate.{Candidate}
-use Rattle.steps.specs.declared.Candidate.TheVariants.{Nothing, Node}
 use Rattle.steps.specs.Steps.{meant, key_for, rejects}
 
 -- two candidates of the code that stand for the same one are the same
-written : Chosen → Candidate
-written none = Nothing
-written (node v k) = Node v k
+written : Chosen → Option Candidate
+written none = None
+written (node v k) = Some (record { node = v; key = k })
 
-written_meant : (c : Candidate) → written (meant c) ≡ c
+written_meant : (c : Option Candidate) → written (meant c) ≡ c
 unfolding written
-written_meant Nothing = refl
-written_meant (Node v k) = refl
+written_meant None = refl
+written_meant (Some c) = refl
 
-pub same_candidate : (a b : Candidate) → meant a ≡ meant b → a ≡ b
+pub same_candidate : (a b : Option Candidate) → meant a ≡ meant b → a ≡ b
 same_candidate a b e = sym (written_meant a) ∙ (ap written e ∙ written_meant b)
 
 -- `key`
@@ -29,5 +28,5 @@ pub reject_one_answer : (best label : ℕ) (own target floor theirs : ℤ) (r s 
 reject_one_answer best label own target floor theirs r s e f = e ∙ sym f
 
 -- `floor_after`
-pub floor_after_one_answer : (floor : ℤ) (next : Candidate) (r s : ℤ) → r ≡ floor_after floor (meant next) → s ≡ floor_after floor (meant next) → r ≡ s
+pub floor_after_one_answer : (floor : ℤ) (next : Option Candidate) (r s : ℤ) → r ≡ floor_after floor (meant next) → s ≡ floor_after floor (meant next) → r ≡ s
 floor_after_one_answer floor next r s e f = e ∙ sym f

@@ -1,16 +1,15 @@
 -- Steps 3 and 4 of a turn (docs/RULES.md, "The search, turn by turn") on bare numbers, and what the code's candidate stands for.
 -- Step 6 is `floor_after` of `nba`, which has no lists either. Assumes nothing.
-use Rattle.std.specs.Prelude.{Bool, ◌&&◌, ◌||◌, ℕ, ℤ, pos, ◌+ℤ◌, ◌-ℤ◌}
+use Rattle.std.specs.Prelude.{Bool, ◌&&◌, ◌||◌, ℕ, ℤ, pos, ◌+ℤ◌, ◌-ℤ◌, Option, None, Some}
 use Rattle.std.specs.Int.Signed.{le_z}
 use Rattle.nba.specs.State.{present}
 use Rattle.nba.specs.Search.{Chosen, none, node}
 use Rattle.steps.specs.declared.Candidate.{Candidate}
-use Rattle.steps.specs.declared.Candidate.TheVariants.{Nothing, Node}
 
 -- the candidate that the code's stands for
-abbrev pub meant : Candidate → Chosen
-meant Nothing = none
-meant (Node v k) = node v k
+abbrev pub meant : Option Candidate → Chosen
+meant None = none
+meant (Some c) = node c.node c.key
 
 -- step 3's key on bare numbers: the label plus the side's own potential
 abbrev pub key_for : ℕ → ℤ → ℤ

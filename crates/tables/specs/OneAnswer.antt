@@ -1,11 +1,21 @@
 -- Each public function's contract admits a single answer: whatever two runs on the same input return and leave in the lent
 -- lists, they are the same. Assumes nothing.
-use Rattle.std.specs.Prelude.{◌≡◌, List, ℕ, length}
+use Rattle.std.specs.Prelude.{◌≡◌, List, ℕ, length, set, replicate}
 use Rattle.std.proofs.Common.{sym, ◌∙◌}
 use Rattle.network.specs.declared.Figures.{Figures}
+use Rattle.nba.specs.State.{missing, no_node}
 use Rattle.nba.specs.Result.{figures_in, path_through}
 use Rattle.network.specs.Front.{at_front}
 use Rattle.tables.specs.Tables.{FirstTables}
+
+-- `SideLists::begin_at`
+pub begin_at_one_answer : (labels neighbours labels_after labels_after' neighbours_after neighbours_after' : List ℕ) (home : ℕ)
+    → labels_after ≡ set (replicate (length labels) missing) home 0
+    → neighbours_after ≡ replicate (length neighbours) no_node
+    → labels_after' ≡ set (replicate (length labels) missing) home 0
+    → neighbours_after' ≡ replicate (length neighbours) no_node
+    → (labels_after ≡ labels_after') × (neighbours_after ≡ neighbours_after')
+begin_at_one_answer labels neighbours labels_after labels_after' neighbours_after neighbours_after' home p q p' q' = (p ∙ sym p', q ∙ sym q')
 
 -- `begin`
 pub begin_one_answer : (n s e : ℕ) (sl sl' sn sn' el el' en en' states states' : List ℕ)

@@ -1,6 +1,7 @@
 -- What setting the tables to the beginning of a search, counting the figures and writing the path ask and leave: the tables of
--- step 1 (docs/RULES.md, step 1), figures added up, and nodes one after the other along neighbours. Assumes nothing.
-use Rattle.std.specs.Prelude.{◌≡◌, List, [], ◌∷◌, ℕ, zero, suc, ◌+◌, ◌≤◌, ◌<◌, length, get_or, set, replicate}
+-- step 1 (docs/RULES.md, step 1), figures added up, and the nodes of a path. Assumes nothing.
+use Rattle.std.specs.Prelude.{◌≡◌, List, ℕ, ◌+◌, ◌≤◌, ◌<◌, length, set, replicate}
+use Rattle.std.specs.List.{All}
 use Rattle.network.specs.declared.Figures.{Figures}
 use Rattle.network.specs.Network.{most_nodes}
 use Rattle.nba.specs.State.{missing, no_node, undecided}
@@ -38,15 +39,9 @@ pub record Countable (f : Figures) : Type 0 where
   pub by_end : f.opened_by_end ≤ most_nodes + most_nodes
   pub rejected : f.rejected ≤ most_nodes + most_nodes
 
--- the next k nodes after v, from neighbour to neighbour
-unfoldable pub onward : List ℕ → ℕ → ℕ → List ℕ
-onward neighbours zero v = []
-onward neighbours (suc k) v = get_or neighbours v no_node ∷ onward neighbours k (get_or neighbours v no_node)
-
 -- every entry of the list is a node of a network of n nodes
-pub data NodesBelow (n : ℕ) : List ℕ → Type 0 where
-  no_entries : NodesBelow n []
-  one_node : {v : ℕ} {nodes : List ℕ} → v < n → NodesBelow n nodes → NodesBelow n (v ∷ nodes)
+abbrev pub NodesBelow : ℕ → List ℕ → Type 0
+NodesBelow n nodes = All (λ v. v < n) nodes
 
 -- what writing a path asks: it is of nodes and no longer than there are nodes, and the list has room for as many
 pub record PathRoom (path startward endward : List ℕ) (s e meeting : ℕ) : Type 0 where

@@ -1,13 +1,9 @@
--- `answers::write_line` meets its contract: the line is underway with the fields that are left, and the line feed ends it.
+-- `answers::write_line` meets its contract: the line is underway with the items that are left, and the line feed ends it.
 -- Assumes nothing.
-use Prim.Native.Nat.{◌-◌, ◌≤◌}
-use lib.ListN.{length, drop}
-use Rattle.frames.specs.AnswerLines.{line_of}
+use Rattle.std.proofs.Common.{◌≤◌, length, drop}
 use Rattle.frames.specs.RoomLaws.{Underway}
+use Rattle.answers.specs.Fields.{line_by}
 use Rattle.answers.proofs.write_line.Given as goal
 
-abbrev pub invariant-loop-i : goal.invariant-loop-i
-invariant-loop-i l = (l.i ≤ length l.widths) × Underway (line_of l.widths l.values) l.initial.room l.room l.at (line_of (drop l.i l.widths) (drop l.i l.values))
-
-abbrev pub decreases-loop-i : goal.decreases-loop-i
-decreases-loop-i l = length l.widths - l.i
+abbrev pub invariant-loop-item : goal.invariant-loop-item
+invariant-loop-item g l = (l.item-index ≤ length l.items) × Underway (line_by g.T.Spelled.spells l.items) l.initial.room l.room l.at (line_by g.T.Spelled.spells (drop l.item-index l.items))

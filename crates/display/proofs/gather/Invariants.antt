@@ -1,16 +1,14 @@
 -- `gather` meets its contract: what is written and what is still to come make up the answer, byte for byte. The loop is left
 -- where the file is read whole, or where a refusal has ended it and nothing is still to come. Assumes nothing.
-use Prim.Native.Nat.{◌-◌}
-use lib.ListN.{length}
-use Rattle.index.specs.Index.{index}
-use Rattle.district.specs.Reader.{lists}
+use Rattle.std.specs.Prelude.{length}
+use Rattle.district.specs.Lists.{lists_held}
 use Rattle.display.specs.GatherLaws.{Gathering}
 use Rattle.display.proofs.gather.Given as goal
 
-abbrev pub invariant-loop-i : goal.invariant-loop-i
-invariant-loop-i l =
-    Gathering l.file l.initial.text (lists l.initial.line l.initial.tails l.initial.heads l.initial.weights (index l.initial.out_arcs l.initial.out_begins l.initial.in_arcs l.initial.in_begins) l.initial.forward l.initial.backward) l.reader (lists l.line l.tails l.heads l.weights (index l.out_arcs l.out_begins l.in_arcs l.in_begins) l.forward l.backward) l.text l.at l.i
+abbrev pub invariant-loop-reader : goal.invariant-loop-reader
+invariant-loop-reader l =
+    Gathering l.file l.initial.text l.reader (lists_held l.lists l.index) l.text l.at l.rest
 
-abbrev pub decreases-loop-i : goal.decreases-loop-i
-decreases-loop-i l =
-    length l.file - l.i
+abbrev pub decreases-loop-reader : goal.decreases-loop-reader
+decreases-loop-reader l =
+    length l.rest

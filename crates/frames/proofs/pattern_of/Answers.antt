@@ -1,50 +1,67 @@
 -- `frames::pattern_of` meets its contract: only a query has entries, and its line ends with one digit for each. Assumes nothing.
-use mathlib.Core.Path.{◌≡◌, refl, sym, ◌∙◌}
-use mathlib.Core.List.{List, []}
-use Prim.Native.Nat.{ℕ}
-use native.Mathlib.Omega.{arith}
+use Rattle.std.proofs.Common.{◌≡◌, refl, sym, ap, List, [], ℕ, ◌-◌, length, take, drop, le_refl, length-drop, take_all, arith, ◌∙◌}
+use Rattle.std.specs.Prelude.{Some}
 use Rattle.frames.specs.Digits.{value_of, value_table}
-use Rattle.frames.specs.Frame.{entries_of, pattern_of}
+use Rattle.frames.specs.Frame.{frame_of, entries_from, entries_of, pattern_of}
 use Rattle.frames.specs.FrameCases.{query_length}
-use Rattle.frames.specs.RoomLaws.{laid_placed, too_little_room, nothing_placed}
+use Rattle.frames.specs.RoomLaws.{length_rest, laid_placed, too_little_room, nothing_placed}
 use Rattle.frames.specs.PatternLaws.{query_pattern, length_pattern}
 use Rattle.frames.specs.declared.Frame.{Frame}
-use Rattle.frames.specs.declared.Frame.TheVariants.{Size, Arc, TwoWay, Potentials, Query, Unsound}
-use Rattle.network.specs.declared.Cap.{Cap}
+use Rattle.frames.specs.declared.Frame.TheVariants.{Size, Arc, TwoWay, Potentials, Query}
+use Rattle.network.specs.Cap.{Cap}
 use Rattle.frames.proofs.pattern_of.Goals as goal
+use Rattle.frames.proofs.pattern_of.Goals.{In-Query}
 
 -- a frame that is no query has no entries
-no_entries : (f : Frame) (s : List ℕ) → ((a b : ℕ) (c : Cap) (n : ℕ) → f ≡ Query a b c n → ⊥) → entries_of f s ≡ []
+no_entries : (f : Frame) (s : List ℕ) → ((a b : ℕ) (c : Cap) (n : ℕ) → f ≡ Query a b c n → ⊥) → entries_of (Some f) s ≡ []
 no_entries (Query a b c n) s h = absurd (h a b c n refl)
 no_entries (Size n m) s h = refl
 no_entries (Arc t a w) s h = refl
 no_entries (TwoWay t a w) s h = refl
 no_entries (Potentials n a k) s h = refl
-no_entries Unsound s h = refl
+
+-- the line is a query's
+is_query : (c : In-Query) → frame_of c.args.line.now ≡ Some (Query c.in-Query.start c.in-Query.end c.in-Query.cap c.in-Query.count)
+is_query c = sym c.requires ∙ c.in-Some.is ∙ ap Some c.in-Query.is
+
+-- a line's last bytes, lent
+rest : (s : List ℕ) (at : ℕ) → take (length s - at) (drop at s) ≡ drop at s
+rest s at = take_all (length s - at) (drop at s) (rw length-drop (le_refl _))
 
 pub returns-in_default : goal.returns-in_default
 unfolding pattern_of
-returns-in_default c =
-    let none : entries_of c.args.frame c.args.line.now ≡ [] = no_entries c.args.frame _ c.in_default.not-Query in
-    rw (sym c.requires, none) (nothing_placed c.args.entries.now)
+returns-in_default c = rw (sym c.requires ∙ c.in_default.is) (nothing_placed c.args.entries.now)
+
+pub returns-in_default-sound : goal.returns-in_default-sound
+unfolding pattern_of
+returns-in_default-sound c =
+    rw (sym c.requires ∙ c.in-Some.is, no_entries c.in-Some.sound c.args.line.now c.in_default-sound.not-Query) (nothing_placed c.args.entries.now)
 
 pub returns-then-entries-n : goal.returns-then-entries-n
 returns-then-entries-n c =
-    let e = sym c.requires ∙ c.in-Query.is in
+    let e = is_query (goal.at.returns-then-entries-n c).In-Query in
     rw (← query_pattern c.args.line.now e)
     (too_little_room _ c.args.entries.now (omega (arith, length_pattern c.args.line.now e)))
 
 pub overflow_sub-line : goal.overflow_sub-line
 overflow_sub-line c =
-    let e = sym c.requires ∙ c.in-Query.is in omega (arith, query_length c.args.line.now e)
+    let e = is_query (goal.at.overflow_sub-line c).In-Query in omega (arith, query_length c.args.line.now e)
 
 pub write_entries-requires : goal.write_entries-requires
 unfolding value_table value_of
-write_entries-requires c = (refl, omega arith, omega arith)
+write_entries-requires c =
+    let s = c.args.line.now in
+    let e = is_query (goal.at.write_entries-requires c).In-Query in
+    (refl, omega (arith, c.from-n.ensures, length_rest s (length s - c.from-n.result), query_length s e))
 
 pub returns : goal.returns
+unfolding entries_from
 returns c =
-    let e = sym c.requires ∙ c.in-Query.is in
-    let n = length_pattern c.args.line.now e in
-    rw (← query_pattern c.args.line.now e)
-    (laid_placed _ c.args.entries.now _ _ (omega (arith, n)) (record { count_is = sym n; room_is = c.write_entries.ensures }))
+    let s = c.args.line.now in
+    let count : c.from-n.result ≡ c.in-Query.count = c.from-n.ensures in
+    let at = length s - c.in-Query.count in
+    let e = is_query (goal.at.returns c).In-Query in
+    let n = length_pattern s e in
+    let whole : take (length s - at) (drop at s) ≡ drop at s = rest s at in
+    rw (← query_pattern s e)
+    (laid_placed _ c.args.entries.now _ _ (omega (arith, n)) (record { count_is = count ∙ sym n; room_is = rw (count, whole) at c.write_entries.ensures }))

@@ -1,13 +1,8 @@
--- `frames::write_entries` meets its contract: the entries underway are the values of the line's digits from the place on.
--- Assumes nothing.
-use Prim.Native.Nat.{◌+◌, ◌-◌, ◌≤◌}
-use lib.ListN.{length}
-use Rattle.frames.specs.Frame.{entries_from}
+-- `frames::write_entries` meets its contract: the entries underway are the values of the bytes. Assumes nothing.
+use Rattle.std.proofs.Common.{map, drop}
+use Rattle.frames.specs.Digits.{value_of}
 use Rattle.frames.specs.RoomLaws.{Underway}
 use Rattle.frames.proofs.write_entries.Given as goal
 
 abbrev pub invariant-loop-i : goal.invariant-loop-i
-invariant-loop-i l = (l.i ≤ length l.line - l.at) × Underway (entries_from l.at l.line) l.initial.entries l.entries l.i (entries_from (l.at + l.i) l.line)
-
-abbrev pub decreases-loop-i : goal.decreases-loop-i
-decreases-loop-i l = length l.line - l.i
+invariant-loop-i l = Underway (map value_of l.digits) l.initial.entries l.entries l.i (map value_of (drop l.i l.digits))

@@ -1,64 +1,45 @@
 -- `index::check_held` meets its contract: the verdict on the arcs and the room, and then whether each way is the listing of its
 -- near nodes, which arcs that are accepted can be tested for. Assumes nothing.
-use mathlib.Core.Path.{◌≡◌, refl, sym, ◌∙◌}
-use mathlib.Core.Bool.{true, false}
-use borrow.Author.Tests.{not-true, not-false}
-use Rattle.network.specs.declared.Verdict.TheVariants.{Accepted}
-use Rattle.network.specs.Network.{start, end, Network, network}
+use Rattle.std.proofs.Common.{◌≡◌, true, false, Ok, refl, sym, ◌∙◌}
+use Rattle.std.proofs.lemmas.Result.{err_from_is_err_and}
+use Rattle.network.specs.Lists.{network_of}
+use Rattle.network.specs.Network.{start, end}
 use Rattle.network.specs.RefusalLaws.{row_decides}
-use Rattle.index.specs.Index.{Index, index}
+use Rattle.index.specs.Lists.{index_of}
 use Rattle.index.specs.Table.{build_verdict}
-use Rattle.index.specs.JudgedLaws.{arcs_decide, held_parts, listable, room, ways_decide}
+use Rattle.index.specs.JudgedLaws.{held_parts, listable, room, ways_decide}
 use Rattle.index.proofs.check_held.Goals as goal
-use Rattle.index.proofs.check_held.Goals.{After-check_arcs-of_arcs, In-Accepted, Start}
+use Rattle.index.proofs.check_held.Goals.{In_ok-check_listable}
 
--- the arcs and the index at entry
-abbrev arcs : Start → Network
-arcs s = network s.args.nodes s.args.tails.now s.args.heads.now s.args.weights.now
+-- past the first test the arcs and the room are accepted
+accepted : (c : In_ok-check_listable) → build_verdict (network_of c.args.network) (index_of c.args.held) ≡ Ok tt
+accepted c = sym c.in_ok-check_listable.ensures
 
-abbrev held : Start → Index
-held s = index s.args.out_arcs.now s.args.out_begins.now s.args.in_arcs.now s.args.in_begins.now
+pub returns-in_err-check_listable : goal.returns-in_err-check_listable
+returns-in_err-check_listable c =
+    let p = err_from_is_err_and c.from_residual.result c.from_residual.ensures.1 in
+    rw (p.1, p.2) (row_decides c.in_err-check_listable.ensures refl _ ∙ sym (held_parts _ _))
 
--- the verdict is the table's on the arcs and the room
-judged : (c : After-check_arcs-of_arcs) →
-    c.check_arcs-of_arcs.result ≡ build_verdict (arcs (goal.at.After-check_arcs-of_arcs c).Start) (held (goal.at.After-check_arcs-of_arcs c).Start)
-judged c =
-    arcs_decide (arcs (goal.at.After-check_arcs-of_arcs c).Start) (held (goal.at.After-check_arcs-of_arcs c).Start) c.is_short-short.ensures c.check_arcs-of_arcs.ensures
+pub is_listed-requires-clause-listable : goal.is_listed-requires-clause-listable
+is_listed-requires-clause-listable c = listable _ (index_of c.args.held) (accepted (goal.at.is_listed-requires-clause-listable c).In_ok-check_listable) start
 
--- past the test it accepts
-accepted : (c : In-Accepted) →
-    build_verdict (arcs (goal.at.In-Accepted c).Start) (held (goal.at.In-Accepted c).Start) ≡ Accepted
-accepted c =
-    sym (judged (goal.at.In-Accepted c).After-check_arcs-of_arcs) ∙ c.in-Accepted.is
-
-pub returns-in_default : goal.returns-in_default
-returns-in_default c =
-    row_decides (judged (goal.at.returns-in_default c).After-check_arcs-of_arcs) c.in_default.is _ ∙ sym (held_parts (arcs (goal.at.returns-in_default c).Start) (held (goal.at.returns-in_default c).Start))
-
-pub is_listed-requires : goal.is_listed-requires
-is_listed-requires c =
-    let fits = accepted ((goal.at.is_listed-requires c).In-Accepted) in
-    record {
-      listable = listable (arcs (goal.at.is_listed-requires c).Start) (held (goal.at.is_listed-requires c).Start) fits start;
-      list_room = room (arcs (goal.at.is_listed-requires c).Start) (held (goal.at.is_listed-requires c).Start) fits start;
-    }
+pub is_listed-requires-clause-list_room : goal.is_listed-requires-clause-list_room
+is_listed-requires-clause-list_room c = room _ (index_of c.args.held) (accepted (goal.at.is_listed-requires-clause-list_room c).In_ok-check_listable) start
 
 pub returns-then-not-is_listed : goal.returns-then-not-is_listed
 returns-then-not-is_listed c =
-    ways_decide (arcs (goal.at.returns-then-not-is_listed c).Start) (held (goal.at.returns-then-not-is_listed c).Start) (accepted (goal.at.returns-then-not-is_listed c).In-Accepted) false _ (sym (not-true _ c.if-not-is_listed.true-raw) ∙ c.is_listed.ensures) refl
+    ways_decide _ (index_of c.args.held) (accepted (goal.at.returns-then-not-is_listed c).In_ok-check_listable) false _ (sym c.if-not-is_listed.true ∙ c.is_listed.ensures) refl
 
-pub is_listed-requires-2 : goal.is_listed-requires-2
-is_listed-requires-2 c =
-    let fits = accepted (goal.at.is_listed-requires-2 c).In-Accepted in
-    record {
-      listable = listable (arcs (goal.at.is_listed-requires-2 c).Start) (held (goal.at.is_listed-requires-2 c).Start) fits end;
-      list_room = room (arcs (goal.at.is_listed-requires-2 c).Start) (held (goal.at.is_listed-requires-2 c).Start) fits end;
-    }
+pub is_listed-requires-2-clause-listable : goal.is_listed-requires-2-clause-listable
+is_listed-requires-2-clause-listable c = listable _ (index_of c.args.held) (accepted (goal.at.is_listed-requires-2-clause-listable c).In_ok-check_listable) end
+
+pub is_listed-requires-2-clause-list_room : goal.is_listed-requires-2-clause-list_room
+is_listed-requires-2-clause-list_room c = room _ (index_of c.args.held) (accepted (goal.at.is_listed-requires-2-clause-list_room c).In_ok-check_listable) end
 
 pub returns-then-not-is_listed-2 : goal.returns-then-not-is_listed-2
 returns-then-not-is_listed-2 c =
-    ways_decide (arcs (goal.at.returns-then-not-is_listed-2 c).Start) (held (goal.at.returns-then-not-is_listed-2 c).Start) (accepted (goal.at.returns-then-not-is_listed-2 c).In-Accepted) true false (sym (not-false _ c.if-not-is_listed.false-raw) ∙ c.is_listed.ensures) (sym (not-true _ c.if-not-is_listed-2.true-raw) ∙ c.is_listed-2.ensures)
+    ways_decide _ (index_of c.args.held) (accepted (goal.at.returns-then-not-is_listed-2 c).In_ok-check_listable) true false (sym c.if-not-is_listed.false ∙ c.is_listed.ensures) (sym c.if-not-is_listed-2.true ∙ c.is_listed-2.ensures)
 
 pub returns : goal.returns
 returns c =
-    ways_decide (arcs (goal.at.returns c).Start) (held (goal.at.returns c).Start) (accepted (goal.at.returns c).In-Accepted) true true (sym (not-false _ c.if-not-is_listed.false-raw) ∙ c.is_listed.ensures) (sym (not-false _ c.if-not-is_listed-2.false-raw) ∙ c.is_listed-2.ensures)
+    ways_decide _ (index_of c.args.held) (accepted (goal.at.returns c).In_ok-check_listable) true true (sym c.if-not-is_listed.false ∙ c.is_listed.ensures) (sym c.if-not-is_listed-2.false ∙ c.is_listed-2.ensures)

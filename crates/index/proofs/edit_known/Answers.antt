@@ -1,71 +1,55 @@
 -- `index::edit_known` meets its contract: with arcs and index that pass, the change's own numbers decide; each way is relisted by
 -- itself, and then the arc's entries are written. Assumes nothing.
-use mathlib.Core.Path.{◌≡◌, sym, ◌∙◌}
-use Rattle.network.specs.declared.Verdict.TheVariants.{Accepted}
-use Rattle.network.specs.Network.{start, end, Network, network}
-use Rattle.index.specs.Index.{Index, index}
-use Rattle.index.specs.Table.{Change, change, changed, edit_verdict}
+use Rattle.std.proofs.Common.{◌≡◌, Ok, refl, sym}
+use Rattle.std.proofs.lemmas.Result.{err_from_is_err_and}
+use Rattle.network.specs.Network.{start, end}
+use Rattle.index.specs.Lists.{network_in, index_in}
+use Rattle.index.specs.Table.{changed, edit_verdict}
 use Rattle.index.specs.KeptLaws.{change_decides, held_listable, held_listed, number_near, number_of_weight, new_in, edit_refused, edit_kept}
 use Rattle.index.proofs.edit_known.Goals as goal
-use Rattle.index.proofs.edit_known.Goals.{After-check_change-of_change, In-Accepted, Start}
+use Rattle.index.proofs.edit_known.Goals.{In_ok-check_change}
 
--- the arcs and the index at entry
-abbrev arcs : Start → Network
-arcs s = network s.args.nodes s.args.tails.now s.args.heads.now s.args.weights.now
+-- past the test the edit is accepted
+accepted : (c : In_ok-check_change) → edit_verdict (network_in c.args.nodes c.args.arcs.now) (index_in c.args.held.now) c.args.change ≡ Ok tt
+accepted c = sym (change_decides _ _ c.args.change c.requires c.in_ok-check_change.ensures)
 
-abbrev held : Start → Index
-held s = index s.args.out_arcs.now s.args.out_begins.now s.args.in_arcs.now s.args.in_begins.now
+pub returns-in_err-check_change-clause-kept : goal.returns-in_err-check_change-clause-kept
+returns-in_err-check_change-clause-kept c =
+    let p = err_from_is_err_and c.from_residual.result c.from_residual.ensures.1 in
+    rw (p.1, p.2) (edit_refused _ _ c.args.change (change_decides _ _ c.args.change c.requires c.in_err-check_change.ensures) refl)
 
-abbrev new : Start → Change
-new s = change s.args.number s.args.tail s.args.head s.args.weight
+pub relist-requires-clause-listable : goal.relist-requires-clause-listable
+relist-requires-clause-listable c = rw c.network-known.ensures.tails (held_listable _ _ c.args.change c.requires start)
 
--- the verdict is the table's
-judged : (c : After-check_change-of_change) →
-    c.check_change-of_change.result ≡ edit_verdict (arcs (goal.at.After-check_change-of_change c).Start) (held (goal.at.After-check_change-of_change c).Start) (new (goal.at.After-check_change-of_change c).Start)
-judged c =
-    change_decides (arcs (goal.at.After-check_change-of_change c).Start) (held (goal.at.After-check_change-of_change c).Start) (new (goal.at.After-check_change-of_change c).Start) c.requires c.check_change-of_change.ensures
+pub relist-requires-clause-listed : goal.relist-requires-clause-listed
+relist-requires-clause-listed c = rw c.network-known.ensures.tails (held_listed _ _ c.args.change c.requires start)
 
--- past the test it accepts
-accepted : (c : In-Accepted) →
-    edit_verdict (arcs (goal.at.In-Accepted c).Start) (held (goal.at.In-Accepted c).Start) (new (goal.at.In-Accepted c).Start) ≡ Accepted
-accepted c =
-    sym (judged (goal.at.In-Accepted c).After-check_change-of_change) ∙ c.in-Accepted.is
+pub relist-requires-clause-a_in_bounds : goal.relist-requires-clause-a_in_bounds
+relist-requires-clause-a_in_bounds c =
+    let fits = accepted (goal.at.relist-requires-clause-a_in_bounds c).In_ok-check_change in
+    rw c.network-known.ensures.tails (number_near _ _ _ c.requires fits start, new_in _ _ _ c.requires fits start)
 
-pub returns-in_default : goal.returns-in_default
-returns-in_default c =
-    edit_refused (arcs (goal.at.returns-in_default c).Start) (held (goal.at.returns-in_default c).Start) (new (goal.at.returns-in_default c).Start) (judged (goal.at.returns-in_default c).After-check_change-of_change) c.in_default.is
+pub relist-requires-2-clause-listable : goal.relist-requires-2-clause-listable
+relist-requires-2-clause-listable c = rw c.network-known.ensures.heads (held_listable _ _ c.args.change c.requires end)
 
-pub relist-requires : goal.relist-requires
-relist-requires c =
-    let fits = accepted (goal.at.relist-requires c).In-Accepted in
-    record {
-      listable = held_listable (arcs (goal.at.relist-requires c).Start) (held (goal.at.relist-requires c).Start) (new (goal.at.relist-requires c).Start) c.requires start;
-      listed = held_listed (arcs (goal.at.relist-requires c).Start) (held (goal.at.relist-requires c).Start) (new (goal.at.relist-requires c).Start) c.requires start;
-      a_in_bounds = (number_near _ _ _ c.requires fits start, new_in _ _ _ c.requires fits start);
-    }
+pub relist-requires-2-clause-listed : goal.relist-requires-2-clause-listed
+relist-requires-2-clause-listed c = rw c.network-known.ensures.heads (held_listed _ _ c.args.change c.requires end)
 
-pub relist-requires-2 : goal.relist-requires-2
-relist-requires-2 c =
-    let fits = accepted (goal.at.relist-requires-2 c).In-Accepted in
-    record {
-      listable = held_listable (arcs (goal.at.relist-requires-2 c).Start) (held (goal.at.relist-requires-2 c).Start) (new (goal.at.relist-requires-2 c).Start) c.requires end;
-      listed = held_listed (arcs (goal.at.relist-requires-2 c).Start) (held (goal.at.relist-requires-2 c).Start) (new (goal.at.relist-requires-2 c).Start) c.requires end;
-      a_in_bounds = (number_near _ _ _ c.requires fits end, new_in _ _ _ c.requires fits end);
-    }
+pub relist-requires-2-clause-a_in_bounds : goal.relist-requires-2-clause-a_in_bounds
+relist-requires-2-clause-a_in_bounds c =
+    let fits = accepted (goal.at.relist-requires-2-clause-a_in_bounds c).In_ok-check_change in
+    rw c.network-known.ensures.heads (number_near _ _ _ c.requires fits end, new_in _ _ _ c.requires fits end)
 
-pub bounds-tails-a : goal.bounds-tails-a
-bounds-tails-a c =
-    number_near _ _ _ c.requires (accepted (goal.at.bounds-tails-a c).In-Accepted) start
+pub bounds-arcs-a : goal.bounds-arcs-a
+bounds-arcs-a c = number_near _ _ _ c.requires (accepted (goal.at.bounds-arcs-a c).In_ok-check_change) start
 
-pub bounds-heads-a : goal.bounds-heads-a
-bounds-heads-a c =
-    number_near _ _ _ c.requires (accepted (goal.at.bounds-heads-a c).In-Accepted) end
+pub bounds-arcs-a-2 : goal.bounds-arcs-a-2
+bounds-arcs-a-2 c = number_near _ _ _ c.requires (accepted (goal.at.bounds-arcs-a-2 c).In_ok-check_change) end
 
-pub bounds-weights-a : goal.bounds-weights-a
-bounds-weights-a c =
-    number_of_weight _ _ _ c.requires (accepted (goal.at.bounds-weights-a c).In-Accepted)
+pub bounds-arcs-a-3 : goal.bounds-arcs-a-3
+bounds-arcs-a-3 c = number_of_weight _ _ _ c.requires (accepted (goal.at.bounds-arcs-a-3 c).In_ok-check_change)
 
-pub returns : goal.returns
+pub returns-clause-kept : goal.returns-clause-kept
 unfolding changed
-returns c =
-    edit_kept (arcs (goal.at.returns c).Start) (held (goal.at.returns c).Start) (new (goal.at.returns c).Start) c.requires (accepted (goal.at.returns c).In-Accepted) _ c.relist.ensures c.relist-2.ensures c.in-Accepted.is
+returns-clause-kept c =
+    edit_kept _ _ _ c.requires (accepted (goal.at.returns-clause-kept c).In_ok-check_change) _ (rw c.network-known.ensures.tails at c.relist.ensures) (rw c.network-known.ensures.heads at c.relist-2.ensures) refl

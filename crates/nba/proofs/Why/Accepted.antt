@@ -1,8 +1,7 @@
 -- The demands (docs/RULES.md, "The three demands" and "Capped queries"), of every query that the refusal table accepts: what an
 -- accepted query gives is all that the theorems ask. Assumes nothing.
-use Rattle.std.specs.Prelude.{◌≡◌, ◌≢◌, List, ℕ, ◌≤◌}
+use Rattle.std.specs.Prelude.{◌≡◌, ◌≢◌, List, ℕ, ◌≤◌, Ok}
 use Rattle.network.specs.declared.Lent.{Lent}
-use Rattle.network.specs.declared.Verdict.TheVariants.{Accepted}
 use Rattle.network.specs.Query.{Query}
 use Rattle.network.specs.Refusal.{query_verdict}
 use Rattle.network.specs.SoundLaws.{accepted_sound}
@@ -12,7 +11,7 @@ use Rattle.nba.specs.Demands.{Demand2Found, Demand3Turns, Demand3Opened, Demand3
 use Rattle.nba.proofs.Why.Theorems.{demand_2, demand_3_turns_at, demand_3_turns, demand_3_opened, demand_3_opened_at, demand_3_bound, demand_3_same, below_the_mark, below_the_mark_at}
 use Rattle.nba.proofs.Why.Capped.{honest, never_taken_back, capped_at_nodes}
 
-module _ (q : Query) (l : Lent) (accepted : query_verdict q l ≡ Accepted) where
+module _ (q : Query) (l : Lent) (accepted : query_verdict q l ≡ Ok tt) where
   pub accepted_demand_2 : Demand2Found q
   accepted_demand_2 = demand_2 (accepted_sound q l accepted)
 
@@ -51,6 +50,6 @@ module _ (q : Query) (l : Lent) (accepted : query_verdict q l ≡ Accepted) wher
   accepted_capped_at_nodes = capped_at_nodes (accepted_sound q l accepted)
 
 -- length and verdict are the same for any two patterns with which the query is accepted
-pub accepted_demand_3_same : (q : Query) (p : List ℕ) (l l' : Lent) → query_verdict q l ≡ Accepted → query_verdict (with_pattern p q) l' ≡ Accepted
+pub accepted_demand_3_same : (q : Query) (p : List ℕ) (l l' : Lent) → query_verdict q l ≡ Ok tt → query_verdict (with_pattern p q) l' ≡ Ok tt
     → SameLengthAndVerdict (found q) (found (with_pattern p q))
 accepted_demand_3_same q p l l' a b = demand_3_same p (accepted_sound q l a) (accepted_sound (with_pattern p q) l' b)

@@ -2,11 +2,9 @@
 -- labels; so comparing with a mark, and only where a label falls, decides what step 5 asks in words. Assumes nothing.
 use Rattle.std.specs.Prelude.{◌≡◌, ◌≢◌, Bool, true, false, cond, not, ◌&&◌, ◌||◌, List, ◌++◌, eqb, ltb}
 use Rattle.std.proofs.Math.Path.{refl, ap}
-use Rattle.std.proofs.Common.{sym, ◌∙◌, arith}
-use Prim.Native.Nat.{ℕ, zero, suc, ◌+◌, ◌≤◌, ◌<◌}
+use Rattle.std.proofs.Common.{sym, ◌∙◌, arith, ℕ, zero, suc, ◌+◌, ◌≤◌, ◌<◌, lt-ltb, le-ltb, ltb-true, eqb-true, ne_eqb}
 use Rattle.std.proofs.Math.ListN.{length, get_or, set}
 use Rattle.std.proofs.Math.Seq.{get_or-set_same}
-use borrow.Author.Tests.{lt-ltb, le-ltb, ltb-true, eqb-true, ne_eqb}
 use Rattle.network.specs.Network.{Side, other, Network, most_weight, arc_count, near, far, weight, is_arc}
 use Rattle.network.specs.Query.{Query, side_of_turn}
 use Rattle.network.specs.Given.{Sound}

@@ -1,15 +1,13 @@
 -- What is demanded of an answer at a cap (docs/RULES.md, "Capped queries"), of every sound query and every turn pattern: honest,
 -- and never taken back. And there is one search: without a cap it is the one at as many turns as there are nodes. Assumes nothing.
-use Rattle.std.specs.Prelude.{◌≡◌, refl, ◌≢◌, true, false, ℕ, zero, suc, ◌+◌, ◌-◌, ◌≤◌, ◌<◌, max}
+use Rattle.std.specs.Prelude.{◌≡◌, refl, ◌≢◌, true, false, ℕ, zero, suc, ◌+◌, ◌-◌, ◌≤◌, ◌<◌, max, Ok, Err, None, Some}
 use Rattle.std.proofs.Common.{sym, ◌∙◌, arith}
 use Rattle.std.proofs.Math.Path.{ap}
 use Rattle.std.proofs.Math.ListN.{length}
 use Rattle.network.specs.declared.Answer.{Answer}
-use Rattle.network.specs.declared.Cap.{Cap}
-use Rattle.network.specs.declared.Cap.TheVariants.{Uncapped, AtMost}
+use Rattle.network.specs.Cap.{Cap}
 use Rattle.network.specs.declared.Lent.{Lent}
-use Rattle.network.specs.declared.Verdict.{Verdict}
-use Rattle.network.specs.declared.Verdict.TheVariants.{Accepted, Refused}
+use Rattle.network.specs.Verdict.{Verdict}
 use Rattle.network.specs.Network.{Side, start, end, other}
 use Rattle.network.specs.WalkLaws.{walk_append, walk_turned}
 use Rattle.network.specs.Query.{Query}
@@ -225,9 +223,9 @@ module _ {q : Query} (sound : Sound q) where
 -- the answer with or without a cap is the one at as many turns as the query gives
 pub answer_under_lem : (c : Cap) (q : Query) (l : Lent) → answer_under c q l ≡ answer_to_at q (turns_given c q) l
 unfolding answer_to answer_to_at
-answer_under_lem (AtMost cap) q l = refl
-answer_under_lem Uncapped q l = by (query_verdict q l) refl
+answer_under_lem (Some cap) q l = refl
+answer_under_lem None q l = by (query_verdict q l) refl
   where
     by : (v : Verdict) → query_verdict q l ≡ v → answer_to q l ≡ answer_to_at q q.network.nodes l
-    by (Refused c) e = rw e
-    by Accepted e = rw e (sym (capped_at_nodes (accepted_sound q l e)))
+    by (Err c) e = rw e
+    by (Ok _) e = rw e (sym (capped_at_nodes (accepted_sound q l e)))

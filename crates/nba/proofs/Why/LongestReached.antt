@@ -1,9 +1,7 @@
 -- The largest shortest length, 2,047,000,000, is reached: the search answers the query along the chain (specs/Why/Longest) by a
 -- route of the chain's length. No turn is computed. Assumes nothing.
 use Rattle.std.specs.Prelude.{◌≡◌, length}
-use Rattle.std.proofs.Common.{ap, ◌∙◌}
-use Prim.Native.Nat.{ℕ, ◌*◌, ◌-◌, ◌<◌}
-use native.Mathlib.Omega.{arith}
+use Rattle.std.proofs.Common.{ap, ◌∙◌, ℕ, ◌*◌, ◌-◌, ◌<◌, arith}
 use Rattle.network.specs.declared.Answer.TheVariants.{Route}
 use Rattle.network.specs.Network.{most_nodes, most_weight}
 use Rattle.network.specs.Refusal.{room_for}

@@ -1,8 +1,7 @@
 -- The run: what is true before every turn, and that the search ends. In each turn one node leaves, so there are at most as
 -- many turns as nodes. Assumes nothing.
 use Rattle.std.specs.Prelude.{◌≡◌, ◌≢◌, true, false, eqb, length}
-use Rattle.std.proofs.Common.{sym, ap, ◌∙◌, arith}
-use Prim.Native.Nat.{ℕ, zero, suc, ◌+◌, ◌≤◌, ◌<◌}
+use Rattle.std.proofs.Common.{sym, ap, ◌∙◌, arith, ℕ, zero, suc, ◌+◌, ◌≤◌, ◌<◌}
 use Rattle.network.specs.Network.{Side, start, end, other}
 use Rattle.network.specs.WalkLaws.{walk_turned}
 use Rattle.network.specs.Query.{Query, side_of_turn}

@@ -2,12 +2,10 @@
 -- after it, and the tests of step 4 are bars. Assumes nothing.
 use Rattle.std.specs.Prelude.{◌≡◌, ◌≢◌, List, ℕ, ◌+◌, ◌≤◌, ◌<◌, eqb, ltb, ℤ, length}
 use Rattle.std.proofs.Math.Path.{refl, ap}
-use Rattle.std.proofs.Common.{sym, ◌∙◌}
+use Rattle.std.proofs.Common.{sym, ◌∙◌, arith, eq-eqb, ne_eqb, ltb-true}
 use Rattle.std.proofs.Math.Bool.{true, false}
-use native.Mathlib.Omega.{arith}
 use Rattle.std.proofs.Math.ListN.{get_or, set}
 use Rattle.std.proofs.Math.Seq.{get_or-set_same, get_or-set_other}
-use borrow.Author.Tests.{eq-eqb, ne_eqb, ltb-true}
 use Rattle.network.specs.Network.{Side, other, arc_count, is_arc}
 use Rattle.network.specs.Walk.{Step}
 use Rattle.network.specs.Query.{Query, potentials}

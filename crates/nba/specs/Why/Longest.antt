@@ -2,18 +2,15 @@
 -- (proofs/Why/LongestReached): 2,048 nodes, from the first to the last, each arc of the top weight. The walk along the chain is
 -- that long, and none is shorter: the potential of a node is how far it is from the last, and along a walk a consistent potential
 -- falls by no more than the walk's length. Assumes nothing.
-use Rattle.std.specs.Prelude.{◌≡◌, true, false, List, [], ◌∷◌, ℤ, pos, ◌-ℤ◌, length, get_or, replicate}
+use Rattle.std.specs.Prelude.{◌≡◌, true, false, List, [], ◌∷◌, ℤ, pos, ◌-ℤ◌, length, get_or, replicate, Ok}
 use Rattle.std.proofs.Math.Path.{refl}
-use Rattle.std.proofs.Common.{ap, ◌∙◌}
-use Prim.Native.Nat.{ℕ, zero, suc, ◌+◌, ◌*◌, ◌-◌, ◌≤◌, ◌<◌}
-use native.Mathlib.Omega.{arith}
+use Rattle.std.proofs.Common.{ap, ◌∙◌, ℕ, zero, suc, ◌+◌, ◌*◌, ◌-◌, ◌≤◌, ◌<◌, arith, lt-ltb, le-ltb, le-leb, eq-eqb, ne_eqb}
 use Rattle.std.specs.Int.Signed.{le_z}
 use Rattle.std.proofs.Math.ListN.{length-replicate, get_or-replicate}
-use borrow.Author.Tests.{lt-ltb, le-ltb, le-leb, lt-leb, eq-eqb, ne_eqb}
+use borrow.Author.Tests.{lt-leb}
 use Rattle.network.specs.declared.Figures.{Figures}
 use Rattle.network.specs.declared.Answer.{Answer}
 use Rattle.network.specs.declared.Answer.TheVariants.{Route}
-use Rattle.network.specs.declared.Verdict.TheVariants.{Accepted}
 use Rattle.network.specs.Network.{start, end, Network, network, most_nodes, most_arcs, most_weight, arc_count, near, weight, is_arc}
 use Rattle.network.specs.Walk.{Step, Walk, here, step}
 use Rattle.network.specs.WalkLaws.{walk_is}
@@ -166,7 +163,7 @@ module _ (n : ℕ) (few : n < most_nodes) where
   no_broken_rule =
       passes_nowhere (breaks_rule (chain n) (falling (suc n)) (replicate (suc n) (pos 0))) (arc_count (chain n)) (λ a h. rule_fine a (omega (arith, arcs_are)))
 
-  pub along_accepted : query_verdict (along n) (room_for most_nodes) ≡ Accepted
+  pub along_accepted : query_verdict (along n) (room_for most_nodes) ≡ Ok tt
   unfolding query_verdict list_rows trip_rows map_rows first_refusal along
   along_accepted =
       rw (no_bad_node_count, no_bad_arc_lists, no_bad_potential_lists, no_bad_start_or_end, one_entry, no_bad_room, no_bad_arc, no_bad_potential, no_broken_rule)

@@ -1,51 +1,36 @@
 -- `relist` meets its contract: what is found in the two nodes' parts are the arc's old place and its new one. Assumes nothing.
-use native.Mathlib.Omega.{arith}
-use Rattle.relist.specs.RelistLaws.{unmoved}
-use Rattle.relist.proofs.PlaceLaws.{old_part, new_part, has_before, has_room, one_before, asks_earlier, relisted_earlier, asks_later, relisted_later}
+use Rattle.std.proofs.Common.{arith}
+use Rattle.listing.specs.Listing.{near_of}
+use Rattle.relist.proofs.PlaceLaws.{old_part, old_below_first, new_part, new_below_first, has_before, has_room, before_is, one_before, places_in, relisted_there}
 use Rattle.relist.proofs.relist.Goals as goal
-
-pub overflow_cast-u-2 : goal.overflow_cast-u-2
-overflow_cast-u-2 c =
-    omega (arith, c.requires.listable.near_in c.args.a c.requires.a_in_bounds.0, c.requires.listable.nodes_few)
-
-pub returns-then-u-v : goal.returns-then-u-v
-returns-then-u-v c =
-    unmoved c.args.a c.if-u-v.true c.requires.listed
 
 pub place_in-p-requires : goal.place_in-p-requires
 place_in-p-requires c =
-    old_part c.args.a c.args.node (c.requires.listable, (c.requires.listed, c.requires.a_in_bounds))
+    record { part = old_part c.args.a c.args.node c.requires.listable c.requires.listed c.requires.a_in_bounds; below_first = old_below_first c.args.a c.args.node c.requires.listable c.requires.listed c.requires.a_in_bounds }
 
-pub place_in-q-requires : goal.place_in-q-requires
-place_in-q-requires c =
-    new_part c.args.a c.args.node (c.requires.listable, (c.requires.listed, c.requires.a_in_bounds))
+pub place_in-requires : goal.place_in-requires
+place_in-requires c =
+    record { part = new_part c.args.a c.args.node c.requires.listable c.requires.listed c.requires.a_in_bounds; below_first = new_below_first c.args.a c.args.node c.requires.listable c.requires.listed c.requires.a_in_bounds }
 
 pub overflow_sub-q : goal.overflow_sub-q
 overflow_sub-q c =
-    one_before c.args.a c.args.node (c.requires.listable, (c.requires.listed, c.requires.a_in_bounds)) _ _ c.place_in-p.ensures c.place_in-q.ensures c.if-u-v-2.true
+    omega (
+      arith,
+      before_is (near_of c.args.near.now c.args.a) c.args.node c.from.result c.from.ensures,
+      one_before c.args.a c.args.node c.requires.listable c.requires.listed c.requires.a_in_bounds _ _ c.place_in-p.ensures c.place_in.ensures,
+    )
 
-pub shift_earlier-requires : goal.shift_earlier-requires
-shift_earlier-requires c =
-    asks_earlier c.args.a c.args.node (c.requires.listable, (c.requires.listed, c.requires.a_in_bounds)) _ _ c.place_in-p.ensures c.place_in-q.ensures c.if-u-v-2.true
+pub shift-requires : goal.shift-requires
+shift-requires c =
+    rw (before_is (near_of c.args.near.now c.args.a) c.args.node c.from.result c.from.ensures)
+    (places_in c.args.a c.args.node c.requires.listable c.requires.listed c.requires.a_in_bounds _ _ c.place_in-p.ensures c.place_in.ensures)
 
-pub begin_earlier-requires : goal.begin_earlier-requires
-begin_earlier-requires c = (
-  omega (arith, c.if-u-v-2.true),
-  has_before c.args.a c.args.node (c.requires.listable, (c.requires.listed, c.requires.a_in_bounds)),
-)
-
-pub returns-then-u-v-2 : goal.returns-then-u-v-2
-returns-then-u-v-2 c =
-    relisted_earlier c.args.a c.args.node (c.requires.listable, (c.requires.listed, c.requires.a_in_bounds)) _ _ c.place_in-p.ensures c.place_in-q.ensures c.if-u-v-2.true c.shift_earlier.ensures c.begin_earlier.ensures
-
-pub shift_later-requires : goal.shift_later-requires
-shift_later-requires c =
-    asks_later c.args.a c.args.node (c.requires.listable, (c.requires.listed, c.requires.a_in_bounds)) _ _ c.place_in-p.ensures c.place_in-q.ensures (omega (arith, c.if-u-v.false, c.if-u-v-2.false))
-
-pub begin_later-requires : goal.begin_later-requires
-begin_later-requires c =
-    (c.if-u-v-2.false, has_room c.args.a c.args.node (c.requires.listable, (c.requires.listed, c.requires.a_in_bounds)))
+pub move_begins-requires : goal.move_begins-requires
+move_begins-requires c =
+    record { before = has_before c.args.a c.args.node c.requires.listable c.requires.listed c.requires.a_in_bounds; room = has_room c.args.a c.args.node c.requires.listable c.requires.listed c.requires.a_in_bounds }
 
 pub returns : goal.returns
 returns c =
-    relisted_later c.args.a c.args.node (c.requires.listable, (c.requires.listed, c.requires.a_in_bounds)) _ _ c.place_in-p.ensures c.place_in-q.ensures (omega (arith, c.if-u-v.false, c.if-u-v-2.false)) c.shift_later.ensures c.begin_later.ensures
+    relisted_there c.args.a c.args.node c.requires.listable c.requires.listed c.requires.a_in_bounds _ _ c.place_in-p.ensures c.place_in.ensures
+    (rw (before_is (near_of c.args.near.now c.args.a) c.args.node c.from.result c.from.ensures) at c.shift.ensures)
+    c.move_begins.ensures

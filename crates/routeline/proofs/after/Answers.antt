@@ -6,6 +6,6 @@ pub look-requires : goal.look-requires
 look-requires c =
     (c.told-next.ensures.law _ _ c.requires.sits c.requires.came_within).sits
 
-pub returns : goal.returns
-returns c =
-    follows _ _ _ _ _ _ _ c.requires.sits c.requires.came_within c.told-next.ensures _ _ _ c.look.ensures
+pub returns-clause-stands : goal.returns-clause-stands
+returns-clause-stands c =
+    follows _ _ _ _ _ _ _ c.requires.sits c.requires.came_within c.told-next.ensures _ _ _ c.look.ensures.stands

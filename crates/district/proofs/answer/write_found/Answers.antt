@@ -4,4 +4,4 @@ use Rattle.district.proofs.answer.write_found.Goals as goal
 
 pub returns : goal.returns
 returns c =
-    placed_as (left_lines _ _ _ _ _ _ c.requires c.search_accepted-answer.ensures) c.write_answer.ensures
+    placed_as (left_lines _ _ _ _ _ _ c.requires c.search_accepted-answer.ensures.kept) c.write_answer.ensures

@@ -1,7 +1,0 @@
--- `answers::write_no_route` meets its contract: the line is that of the answer's values, 19 bytes long. Assumes nothing.
-use mathlib.Core.Path.{refl}
-use Rattle.frames.specs.AnswerLaws.{length_line}
-use Rattle.answers.proofs.write_no_route.Goals as goal
-
-pub place_line-requires : goal.place_line-requires
-place_line-requires c = (refl, length_line _ _ refl)

@@ -1,0 +1,27 @@
+-- The lists that the code goes over, as the lists that the definitions speak of; and that a call gives back the lists that it was
+-- lent, and no others in their place. Assumes nothing.
+use Rattle.std.specs.Prelude.{◌≡◌, List, ℕ}
+use Rattle.std.specs.Borrow.{MutBor}
+use Rattle.index.specs.declared.IndexLists.{IndexLists}
+use Rattle.index.specs.Index.{Index}
+use Rattle.index.specs.Lists.{index_in}
+use Rattle.district.specs.declared.FileLists.{FileLists}
+use Rattle.district.specs.Reader.{Lists, lists}
+
+-- what the lists of a file hold, beside an index
+abbrev pub lists_beside : FileLists → Index → Lists
+lists_beside l ix = lists l.line.now l.tails.now l.heads.now l.weights.now ix l.forward.now l.backward.now
+
+-- and beside the lists of an index
+abbrev pub lists_held : FileLists → IndexLists (MutBor (List ℕ)) → Lists
+lists_held l ix = lists_beside l (index_in ix)
+
+-- the same lists, before and after
+abbrev pub SameFileLists : FileLists → FileLists → Type 0
+SameFileLists a b =
+    (b.line.ghost_name ≡ a.line.ghost_name)
+    × (b.tails.ghost_name ≡ a.tails.ghost_name)
+    × (b.heads.ghost_name ≡ a.heads.ghost_name)
+    × (b.weights.ghost_name ≡ a.weights.ghost_name)
+    × (b.forward.ghost_name ≡ a.forward.ghost_name)
+    × (b.backward.ghost_name ≡ a.backward.ghost_name)

@@ -1,9 +1,0 @@
--- `lesser` meets its contract: the test says which of the two it is. Assumes nothing.
-use native.Mathlib.Omega.{arith}
-use Rattle.least.proofs.lesser.Goals as goal
-
-pub returns-then-a-b : goal.returns-then-a-b
-returns-then-a-b c = omega arith
-
-pub returns-else-a-b : goal.returns-else-a-b
-returns-else-a-b c = omega arith
