@@ -1,8 +1,8 @@
 // Queries that are tested and not searched: sizes at the bounds (docs/RULES.md, "The network and a query") and beyond them,
 // and lists that are too short. Each is one line, its name and what the refusal table says.
-use crate::indexes::IndexRoom;
 use crate::searches::BEGINS;
 use crate::show;
+use index::IndexLists;
 use network::{Lent, MOST_ARCS, NetworkLists, Potentials, QueryLists};
 
 // One node, an arc from it to itself, and a query from it to itself with pattern 0.
@@ -37,8 +37,12 @@ pub fn room(entries: usize) -> Lent {
 // A query with a path list of so many entries, and work lists of as many as there are nodes. It has its index, where that can be
 // built.
 fn test(out: &impl Print, name: &str, asked: QueryLists, path: usize) {
-    let mut lists = IndexRoom::<MOST_ARCS, BEGINS>::unwritten();
-    let mut held = lists.lent();
+    let mut held: IndexLists<&mut [u16]> = IndexLists {
+        out_arcs: &mut [0; MOST_ARCS],
+        out_begins: &mut [0; BEGINS],
+        in_arcs: &mut [0; MOST_ARCS],
+        in_begins: &mut [0; BEGINS],
+    };
     let _ = index::build(asked.network, &mut held);
     let lent = Lent {
         path,

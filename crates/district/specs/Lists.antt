@@ -1,7 +1,8 @@
 -- The lists that the code goes over, as the lists that the definitions speak of; and that a call gives back the lists that it was
 -- lent, and no others in their place. Assumes nothing.
-use Rattle.std.specs.Prelude.{◌≡◌, List, ℕ}
+use Rattle.std.specs.Prelude.{List, ℕ}
 use Rattle.std.specs.Borrow.{MutBor}
+use Rattle.network.specs.Lists.{SameList}
 use Rattle.index.specs.declared.IndexLists.{IndexLists}
 use Rattle.index.specs.Index.{Index}
 use Rattle.index.specs.Lists.{index_in}
@@ -19,9 +20,9 @@ lists_held l ix = lists_beside l (index_in ix)
 -- the same lists, before and after
 abbrev pub SameFileLists : FileLists → FileLists → Type 0
 SameFileLists a b =
-    (b.line.ghost_name ≡ a.line.ghost_name)
-    × (b.tails.ghost_name ≡ a.tails.ghost_name)
-    × (b.heads.ghost_name ≡ a.heads.ghost_name)
-    × (b.weights.ghost_name ≡ a.weights.ghost_name)
-    × (b.forward.ghost_name ≡ a.forward.ghost_name)
-    × (b.backward.ghost_name ≡ a.backward.ghost_name)
+    SameList a.line b.line
+    × SameList a.tails b.tails
+    × SameList a.heads b.heads
+    × SameList a.weights b.weights
+    × SameList a.forward b.forward
+    × SameList a.backward b.backward

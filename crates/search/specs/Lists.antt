@@ -1,6 +1,6 @@
 -- The six lists that a caller lends to a query, and that a call gives back the lists that it was lent, and no others in their place.
 -- Assumes nothing.
-use Rattle.std.specs.Prelude.{◌≡◌}
+use Rattle.network.specs.Lists.{SameList}
 use Rattle.search.specs.declared.Work.{Work}
 use Rattle.search.specs.Promise.{LentLists, lent_lists}
 
@@ -12,9 +12,9 @@ lists_of w =
 -- the same lists, before and after
 abbrev pub SameWork : Work → Work → Type 0
 SameWork a b =
-    (b.start_labels.ghost_name ≡ a.start_labels.ghost_name)
-    × (b.start_neighbours.ghost_name ≡ a.start_neighbours.ghost_name)
-    × (b.end_labels.ghost_name ≡ a.end_labels.ghost_name)
-    × (b.end_neighbours.ghost_name ≡ a.end_neighbours.ghost_name)
-    × (b.states.ghost_name ≡ a.states.ghost_name)
-    × (b.path.ghost_name ≡ a.path.ghost_name)
+    SameList a.start_labels b.start_labels
+    × SameList a.start_neighbours b.start_neighbours
+    × SameList a.end_labels b.end_labels
+    × SameList a.end_neighbours b.end_neighbours
+    × SameList a.states b.states
+    × SameList a.path b.path

@@ -7,7 +7,7 @@ use Rattle.display.proofs.gather.Given as goal
 
 abbrev pub invariant-loop-reader : goal.invariant-loop-reader
 invariant-loop-reader l =
-    Gathering l.file l.initial.text l.reader (lists_held l.lists l.index) l.text l.at l.rest
+    Gathering l.file l.initial.text (lists_held l.initial.lists l.initial.index) l.reader (lists_held l.lists l.index) l.text l.at l.rest
 
 abbrev pub decreases-loop-reader : goal.decreases-loop-reader
 decreases-loop-reader l =

@@ -1,9 +1,10 @@
 -- `frames::pattern_of` meets its contract: only a query has entries, and its line ends with one digit for each. Assumes nothing.
-use Rattle.std.proofs.Common.{◌≡◌, refl, sym, ap, List, [], ℕ, ◌-◌, length, take, drop, le_refl, length-drop, take_all, arith, ◌∙◌}
+use Rattle.std.proofs.Common.{◌≡◌, refl, sym, ap, List, [], ℕ, ◌-◌, length, map, take, drop, le_refl, length-drop, take_all, arith, ◌∙◌}
 use Rattle.std.specs.Prelude.{Some}
 use Rattle.frames.specs.Digits.{value_of, value_table}
 use Rattle.frames.specs.Frame.{frame_of, entries_from, entries_of, pattern_of}
 use Rattle.frames.specs.FrameCases.{query_length}
+use Rattle.frames.specs.Room.{laid}
 use Rattle.frames.specs.RoomLaws.{length_rest, laid_placed, too_little_room, nothing_placed}
 use Rattle.frames.specs.PatternLaws.{query_pattern, length_pattern}
 use Rattle.frames.specs.declared.Frame.{Frame}
@@ -24,9 +25,12 @@ no_entries (Potentials n a k) s h = refl
 is_query : (c : In-Query) → frame_of c.args.line.now ≡ Some (Query c.in-Query.start c.in-Query.end c.in-Query.cap c.in-Query.count)
 is_query c = sym c.requires ∙ c.in-Some.is ∙ ap Some c.in-Query.is
 
--- a line's last bytes, lent
-rest : (s : List ℕ) (at : ℕ) → take (length s - at) (drop at s) ≡ drop at s
-rest s at = take_all (length s - at) (drop at s) (rw length-drop (le_refl _))
+-- bytes of a line that are read from a place to another: those of its pattern, if they are the line's last
+the_last : (s old : List ℕ) {from to at : ℕ} {new : List ℕ} → new ≡ laid (map value_of (take (to - from) (drop from s))) old → from ≡ at → to ≡ length s
+    → new ≡ laid (map value_of (drop at s)) old
+the_last s old {from} {to} {at} read first last =
+    let all : take (length s - at) (drop at s) ≡ drop at s = take_all (length s - at) (drop at s) (rw length-drop (le_refl _)) in
+    rw (first, last, all) at read
 
 pub returns-in_default : goal.returns-in_default
 unfolding pattern_of
@@ -62,6 +66,7 @@ returns c =
     let at = length s - c.in-Query.count in
     let e = is_query (goal.at.returns c).In-Query in
     let n = length_pattern s e in
-    let whole : take (length s - at) (drop at s) ≡ drop at s = rest s at in
+    let inside = query_length s e in
+    let room = the_last s c.args.entries.now {at = at} c.write_entries.ensures (omega (arith, count)) (omega (arith, count, inside)) in
     rw (← query_pattern s e)
-    (laid_placed _ c.args.entries.now _ _ (omega (arith, n)) (record { count_is = count ∙ sym n; room_is = rw (count, whole) at c.write_entries.ensures }))
+    (laid_placed _ c.args.entries.now _ _ (omega (arith, n)) (record { count_is = count ∙ sym n; room_is = room }))

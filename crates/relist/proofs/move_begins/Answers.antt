@@ -1,7 +1,7 @@
 -- `move_begins` meets its contract: the first of the begins between the two nodes are as after the move, the others as before.
 -- Assumes nothing.
-use Rattle.std.specs.Prelude.{◌≡◌, ◌+◌, ◌-◌, length, drop}
-use Rattle.std.proofs.Common.{sym, arith, length-drop}
+use Rattle.std.specs.Prelude.{◌≡◌, ◌+◌, ◌-◌, length, drop, min}
+use Rattle.std.proofs.Common.{arith, length-drop}
 use Rattle.std.proofs.lemmas.List.{length-take-le}
 use Rattle.relist.proofs.MoveLaws.{moving_earlier, moving_later, moving_all}
 use Rattle.relist.proofs.move_begins.Goals.{then-u-v, else-u-v}
@@ -19,4 +19,5 @@ returns c =
     let n = c.max.result + 1 - (c.min.result + 1) in
     let long : length c.loop-begin.begin-items ≡ n = omega (arith, length-take-le n (drop (c.min.result + 1) c.args.begins.now) (omega (arith, length-drop (c.min.result + 1) c.args.begins.now))) in
     let all : c.loop-begin.begin-index ≡ n = omega arith in
-    moving_all (omega arith) (omega arith) (omega arith) long (rw (sym c.min.ensures, all) at c.loop-begin.invariant)
+    let first : min c.args.u c.args.v ≡ c.min.result = omega (arith, c.min.ensures) in
+    moving_all (omega arith) (omega arith) (omega arith) long (rw (first, all) at c.loop-begin.invariant)

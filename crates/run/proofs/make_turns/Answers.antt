@@ -1,8 +1,9 @@
 -- `make_turns` meets its contract: what `begin` and `begin_queues` leave is the state of step 1, which is the end if start is end;
 -- otherwise, before each turn, the lists stand for the state after as many turns as were made, which the cap allows, and a search
 -- that goes on has made fewer turns than there are nodes. Assumes nothing.
-use Rattle.std.proofs.Common.{refl, ◌∙◌, arith}
+use Rattle.std.proofs.Common.{refl, arith}
 use Rattle.network.specs.Network.{start, end}
+use Rattle.network.specs.ListsLaws.{same_still}
 use Rattle.run.proofs.RunLaws.{side_beginning, begun_going, over_at_once, both_take, turns_left, going_on, stops_ended, stops_used_up}
 use Rattle.run.proofs.make_turns.Goals as goal
 
@@ -47,8 +48,8 @@ pub turns-preserved : goal.turns-preserved
 turns-preserved c =
     let inv = c.turns.invariant in
     let turn = c.next_turn-p.ensures in record {
-      start_lists = (turn.start_lists.0 ∙ inv.start_lists.0, turn.start_lists.1 ∙ inv.start_lists.1);
-      end_lists = (turn.end_lists.0 ∙ inv.end_lists.0, turn.end_lists.1 ∙ inv.end_lists.1);
+      start_lists = (same_still inv.start_lists.0 turn.start_lists.0, same_still inv.start_lists.1 turn.start_lists.1);
+      end_lists = (same_still inv.end_lists.0 turn.end_lists.0, same_still inv.end_lists.1 turn.end_lists.1);
       going = going_on inv.going c.next.ensures c.in-Turn.is turn.turned turn.known turn.queued;
     }
 

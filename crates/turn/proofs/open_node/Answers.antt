@@ -1,7 +1,8 @@
 -- `open_node` meets its contract: looking at what is left of the node's arcs leads to what looking at all of them does. Assumes
 -- nothing.
 use Rattle.std.proofs.Common.{◌<◌, refl, sym, ◌∙◌, arith, length, get_or}
-use Rattle.turn.proofs.TurnLaws.{part, part_begins, part_order, part_inside, part_is, part_arc, part_far, label_keeps, label_waits, look_none, look_left, look_higher, look_labels}
+use Rattle.network.specs.ListsLaws.{same_still}
+use Rattle.turn.proofs.TurnLaws.{part, part_begins, part_order, part_inside, part_is, part_arc, part_far, label_waits, look_none, look_left, look_higher, look_labels}
 use Rattle.turn.proofs.open_node.Goals as goal
 use Rattle.turn.proofs.open_node.Goals.{In-arcs}
 
@@ -22,9 +23,7 @@ slice_bounds-arc-items-end c = omega (arith, part_order c.requires.openable, par
 
 pub arcs-init : goal.arcs-init
 arcs-init c = record {
-  same = (refl, refl);
-  labels = refl;
-  neighbours = refl;
+  same = ((refl, refl), (refl, refl));
   queued = c.requires.queue_of;
   looked = rw (part_is c.requires.openable);
 }
@@ -42,8 +41,6 @@ pub arcs-preserved-then-states-i-ne-UNDECIDED : goal.arcs-preserved-then-states-
 arcs-preserved-then-states-i-ne-UNDECIDED c =
     let inv = c.arcs.invariant in record {
       same = inv.same;
-      labels = inv.labels;
-      neighbours = inv.neighbours;
       queued = inv.queued;
       looked = look_left _ _ _ _ _ _ _ c.arcs-test.true c.if-states-i-ne-UNDECIDED.true ∙ inv.looked;
     }
@@ -55,8 +52,6 @@ pub arcs-preserved-then-lists-i : goal.arcs-preserved-then-lists-i
 arcs-preserved-then-lists-i c =
     let inv = c.arcs.invariant in record {
       same = inv.same;
-      labels = inv.labels;
-      neighbours = inv.neighbours;
       queued = inv.queued;
       looked = look_higher _ _ _ _ _ _ _ c.arcs-test.true c.if-states-i-ne-UNDECIDED.false (omega arith) (omega (arith, (there (goal.at.arcs-preserved-then-lists-i c).In-arcs).1)) c.if-lists-i.true ∙ inv.looked;
     }
@@ -65,12 +60,9 @@ pub arcs-preserved : goal.arcs-preserved
 arcs-preserved c =
     let inv = c.arcs.invariant in
     let label = c.label_node-best.ensures in
-    let kept = label_keeps _ _ _ _ _ label.labelled in
     let far = (there (goal.at.arcs-preserved c).In-arcs).1 in
     let lower = c.if-lists-i.false in record {
-      same = (label.same.0 ∙ inv.same.0, label.same.1 ∙ inv.same.1);
-      labels = kept.0 ∙ inv.labels;
-      neighbours = kept.1 ∙ inv.neighbours;
+      same = (same_still inv.same.0 label.same.0, same_still inv.same.1 label.same.1);
       queued = label_waits _ _ _ _ _ _ label.labelled c.enter.ensures (c.requires.matched.own_small _) (omega (arith, far)) (omega (arith, far)) c.if-states-i-ne-UNDECIDED.false (omega (arith, lower)) inv.queued;
       looked = look_labels _ _ _ _ _ _ _ c.arcs-test.true c.if-states-i-ne-UNDECIDED.false (omega arith) (omega (arith, far)) label.labelled lower ∙ inv.looked;
     }

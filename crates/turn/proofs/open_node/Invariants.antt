@@ -14,8 +14,6 @@ abbrev pub invariant-arcs : goal.invariant-arcs
 invariant-arcs l =
     let g = network_seen (length l.initial.lists.labels.now) l.view in record {
       same : SameLists l.initial.lists l.lists;
-      labels : length l.lists.labels.now ≡ length l.initial.lists.labels.now;
-      neighbours : length l.lists.neighbours.now ≡ length l.initial.lists.neighbours.now;
       queued : QueueOf l.lists.labels.now l.states l.view.own.now l.own_queue;
       looked : look_from g l.theirs l.states l.arc-items l.u l.arc-index (reach_in l.lists l.best) ≡ look_each_by_mark start g l.theirs l.states l.u (arcs_of start g l.u) (reach_in l.initial.lists l.initial.best);
     }

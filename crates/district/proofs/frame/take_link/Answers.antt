@@ -12,7 +12,7 @@ pub returns-in_default : goal.returns-in_default
 returns-in_default c =
     record {
       stepped = over_arcs _ (over_as (λ l h. no_arcs (file_of _ l) c.args.frame c.requires.no_arc c.in_default.not-TwoWay) c.refuse_frame.ensures);
-      same = (refl, refl, refl, refl, refl, refl);
+      same = ((refl, refl), (refl, refl), (refl, refl), (refl, refl), (refl, refl), (refl, refl));
     }
 
 pub returns-then-reader-at-lt2-clause-stepped : goal.returns-then-reader-at-lt2-clause-stepped
